@@ -1,5 +1,5 @@
 -- The files of definitions of this crate.
-pub mod Joins
 pub mod Clocks
+pub mod Joins
 pub mod Past
 pub mod Reaching

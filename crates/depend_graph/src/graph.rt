@@ -8,6 +8,7 @@ ghost use Rattle.round_spec.specs.Sync.{sync_facts};
 ghost use Rattle.depend_graph.specs.Reaching.{slots_of_each};
 
 use super::before::is_before;
+use super::clock::Clock;
 use super::fact::Fact;
 use super::past::Past;
 use super::reaching::reach;
@@ -15,7 +16,6 @@ use guest_call::THREADS;
 use machine_spec::MOST_STEPS;
 use std::alloc::{AllocError, Global};
 use std::marker::Model;
-use vclock::Clock;
 
 /// The most steps that a graph can have.
 pub const MOST_FACTS: usize = MOST_STEPS as usize;

@@ -3,6 +3,7 @@
 #![tactic(auto)]
 
 mod before;
+mod clock;
 mod fact;
 mod graph;
 mod objects;
@@ -11,5 +12,6 @@ mod past;
 mod reaching;
 mod threads;
 
+pub use clock::{Clock, MOST_COUNT};
 pub use fact::Fact;
 pub use graph::{Graph, MOST_FACTS};

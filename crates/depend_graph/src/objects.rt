@@ -7,10 +7,10 @@ ghost use Rattle.sync_objects.specs.Acting.{objects_in};
 ghost use Rattle.depend_graph.specs.declared.objects.ObjectClock.{ObjectClock as Entry};
 ghost use Rattle.depend_graph.specs.Clocks.{object_clock, largest_at, IsLargerOf};
 
+use super::clock::Clock;
 use guest_call::Object;
 use std::alloc::{AllocError, Global};
 use sync_objects::ActedOn;
-use vclock::Clock;
 
 /// Whether two names are of one object.
 pub fn is_same(object: Object, other: Object) -> bool

@@ -4,9 +4,9 @@ ghost use Rattle.std.specs.Prelude.{◌≡◌, ◌≢◌, ℕ, true, false, max,
 ghost use Rattle.history_spec.specs.Before.{is_in};
 ghost use Rattle.depend_graph.specs.Clocks.{page_clock, largest_at, IsLargerOf};
 
+use super::clock::Clock;
 use std::alloc::{AllocError, Global};
 use std::collections::BTreeMap;
-use vclock::Clock;
 
 /// A clock for each page, by its slot.
 #[derive(Drop)]

@@ -7,6 +7,7 @@ ghost use Rattle.depend_graph.specs.Clocks.{thread_clock, largest_below};
 ghost use Rattle.depend_graph.specs.Joins.{IsJoinOf, IsClockOf};
 ghost use Rattle.depend_graph.specs.Past.{IsPastOf};
 
+use super::clock::Clock;
 use super::fact::Fact;
 use super::graph::MOST_FACTS;
 use super::objects::ObjectClocks;
@@ -14,7 +15,6 @@ use super::pages::PageClocks;
 use super::threads::ThreadClocks;
 use guest_call::THREADS;
 use std::alloc::{AllocError, Global};
-use vclock::Clock;
 
 /// The clocks of the steps so far, joined by what they did.
 #[derive(Drop)]

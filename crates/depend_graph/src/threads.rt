@@ -4,8 +4,8 @@ ghost use Rattle.std.specs.Prelude.{◌≡◌, ◌≢◌, ℕ, ◌<◌, true, fa
 ghost use Rattle.history_spec.specs.Before.{is_in};
 ghost use Rattle.depend_graph.specs.Clocks.{thread_clock, largest_below, IsLargerOf};
 
+use super::clock::Clock;
 use guest_call::THREADS;
-use vclock::Clock;
 
 /// A clock for each thread.
 #[derive(Drop)]

@@ -17,8 +17,7 @@ use crate::pages::{highest_page, rights_of, touched_pages};
 use crate::refusals::refusal;
 use bitflags::Flags;
 use elf_spec::{Refusal, accepted_is_inside};
-use page_map::{MappedPage, PageMap, Perm};
-use page_store::{Page, PageTable};
+use page_store::{MappedPage, Page, PageMap, PageTable, Perm};
 use std::alloc::{AllocError, Global};
 use std::sync::Arc;
 

@@ -30,6 +30,7 @@ use ith_host::{Got, Host, OsHost};
 use machine_spec::{Limits, MOST_INPUT_BYTES};
 use refusal::Refusal;
 use release_core::Setup;
+use rv_isa::Turns;
 use schedule::tokens_of;
 use schedule_list::{MOST_SCHEDULE_BYTES, parse};
 use std::alloc::Global;
@@ -39,7 +40,6 @@ use std::process::ExitCode;
 use std::thread::Threads;
 use std::{env, io};
 use tracing::trace;
-use turn_count::Turns;
 
 /// The most turns of a thunk.
 const FUEL: u32 = 1_000_000;

@@ -5,13 +5,13 @@ use crate::refusal::{Refusal, Why};
 use crate::waits::{Wait, Waits};
 use guest_call::{Fate, THREADS};
 use machine_spec::{Asked, End, Status};
-use object_table::Effect;
 use plain_machine::{PlainMachine, StepResult};
 use release_core::Setup;
+use rv_isa::Turns;
 use std::alloc::Global;
 use std::io;
 use std::io::Write;
-use turn_count::Turns;
+use sync_objects::Effect;
 
 /// Writes who holds a reader-writer lock.
 fn write_holders<W: Write>(out: &mut W, waits: &Waits, lock: u32) -> io::Result<()> {

@@ -1,8 +1,8 @@
 //! Who holds which mutex and which reader-writer lock, and who waits for what, as the calls so far tell.
 
 use guest_call::{Call, Fate, OBJECTS, THREADS};
-use object_table::Effect;
 use std::fmt;
+use sync_objects::Effect;
 
 /// What a thread waits for.
 #[derive(Clone, Copy, PartialEq, Eq)]

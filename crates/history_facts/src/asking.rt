@@ -8,9 +8,8 @@ ghost use Rattle.history_spec.specs.Facts as order;
 ghost use Rattle.history_facts.specs.Asking.{call_in};
 
 use guest_call::{Call, Object};
-use object_table::Effect;
-use page_map::PageMap;
-use sync_objects::{ActedOn, Objects};
+use page_store::PageMap;
+use sync_objects::{ActedOn, Effect, Objects};
 use thunk_record::Record;
 use thunk_run::{Range, appends_all};
 use thunk_spec::ThunkEnd;

@@ -14,11 +14,10 @@ use super::slots::{push_read, written};
 use depend_graph::Fact;
 use guest_call::THREADS;
 use machine_spec::MOST_STEPS;
-use object_table::Effect;
-use page_map::PageMap;
+use page_store::PageMap;
 use release_core::{Records, Setup};
 use std::alloc::{AllocError, Global};
-use sync_objects::{ActedOn, Objects};
+use sync_objects::{ActedOn, Effect, Objects};
 use thunk_record::Record;
 
 /// What the facts of steps need of a machine: its page map and its objects, how many threads it has, and how many steps

@@ -4,8 +4,8 @@ ghost use Rattle.std.specs.Prelude.{◌≡◌, IfOk};
 ghost use Rattle.history_spec.specs.Facts as order;
 
 use guest_call::Fate;
-use object_table::Effect;
 use std::alloc::{AllocError, Global};
+use sync_objects::Effect;
 
 /// The threads to which an effect of a call of thread `t` gives a view: the caller, where its call returns, those that
 /// it wakes, and the one that it creates, which is thread `next`.

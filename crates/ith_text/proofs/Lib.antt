@@ -1,0 +1,2 @@
+-- The files of lemmas of this crate.
+pub mod Encoding

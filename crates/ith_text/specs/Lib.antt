@@ -1,2 +1,3 @@
 -- The files of definitions of this crate.
 pub mod Lines
+pub mod Place

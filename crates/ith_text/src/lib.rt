@@ -1,6 +1,7 @@
-//! Numbers and lists as the bytes of a text.
+//! Numbers and lists as the bytes of a text, and fields of a file: little-endian numbers and runs of bytes, read in
+//! order and written in order.
 //!
-//! Each function appends to a vector, and after want of memory the vector is as before.
+//! Each function that appends to a text leaves it as before if memory runs out.
 #![tactic(auto)]
 
 ghost use Rattle.std.specs.Prelude.{◌≡◌, ◌++◌, take, length, OnOk, OnErr, decimal};
@@ -8,6 +9,11 @@ ghost use Rattle.std.specs.Int.{to_be_bytes, w32};
 ghost use Rattle.hex.specs.Hex.{encode_lower};
 ghost use Rattle.ith_text.specs.Lines.{list_line, list_item};
 
+mod cursor;
+mod out;
+
+pub use cursor::{Cursor, Short};
+pub use out::Out;
 use std::alloc::{AllocError, Global};
 
 /// Appends a number's decimal digits, without leading zeros.

@@ -8,9 +8,9 @@ use Rattle.round_spec.specs.Alone.{lone_round}
 use Rattle.rerun_spec.specs.Inputs.{AreRerunInputs}
 use Rattle.rerun_spec.specs.Rounds.{nothing_asked, Beginning, limits_of, after_memo, with_input}
 use Rattle.rerun_workers.proofs.Made.{alone-setup, alone-past}
-use Rattle.why_report.specs.declared.reason.Reason.{Reason}
-use Rattle.why_report.specs.Reasons.{reasons_of, reasons_by, scratch_before, executed_places, GoesByOldRun}
-use Rattle.why_report.specs.Text.{why_text}
+use Rattle.round_report.specs.declared.why.reason.Reason.{Reason}
+use Rattle.round_report.specs.Reasons.{reasons_of, reasons_by, scratch_before, executed_places, GoesByOldRun}
+use Rattle.round_report.specs.WhyText.{why_text}
 use Rattle.propagate.specs.Executing.{executed_by}
 use Rattle.ith_host.specs.World.{World, AsksNothing}
 use Rattle.ith_words.specs.Words.{Text, Reruns, Explains, ExplainLine}

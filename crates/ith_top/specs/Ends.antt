@@ -11,9 +11,9 @@ use Rattle.memo_spec.specs.declared.TheConstants.{MOST_MEMO_BYTES}
 use Rattle.memo_spec.specs.Encoding.{memo}
 use Rattle.memo_spec.specs.Reading.{reading}
 use Rattle.history_spec.specs.Audit.{IsVerdict, turns_of}
-use Rattle.memo_audit.specs.Text.{audit_text}
-use Rattle.memo_listing.specs.Listing.{listing}
-use Rattle.race_report.specs.Text.{races_listing}
+use Rattle.memo_reports.specs.AuditText.{audit_text}
+use Rattle.memo_reports.specs.Listing.{listing}
+use Rattle.memo_reports.specs.RacesText.{races_listing}
 use Rattle.rerun_spec.specs.Inputs.{Refusal, IsFirstRefused}
 use Rattle.plain_machine.specs.Replaying.{IsFirstForbidden}
 use Rattle.report_spec.specs.Text.{line as text_line}

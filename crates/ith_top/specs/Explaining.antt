@@ -3,9 +3,9 @@ use Rattle.std.specs.Prelude.{◌≡◌, ℕ, List, map}
 use Rattle.round_spec.specs.Rounds.{RoundState}
 use Rattle.round_spec.specs.Alone.{lone_round}
 use Rattle.rerun_spec.specs.Rounds.{Beginning, with_input}
-use Rattle.why_report.specs.declared.reason.Reason.{Reason}
-use Rattle.why_report.specs.Reasons.{reasons_of, reasons_by, scratch_before, executed_places}
-use Rattle.why_report.specs.Text.{why_text}
+use Rattle.round_report.specs.declared.why.reason.Reason.{Reason}
+use Rattle.round_report.specs.Reasons.{reasons_of, reasons_by, scratch_before, executed_places}
+use Rattle.round_report.specs.WhyText.{why_text}
 use Rattle.ith_top.specs.Rounds.{BeginsHonestly}
 
 -- The first round of a beginning, on an input, as one worker makes it.

@@ -4,8 +4,8 @@ use Rattle.std.specs.Arc.{arc_value}
 use Rattle.std.specs.List.{concat}
 use Rattle.machine_spec.specs.Setup.{Setup, IsSetup}
 use Rattle.history_spec.specs.History.{History, IsSound}
-use Rattle.why_report.specs.declared.reason.Reason.{Reason}
-use Rattle.why_report.specs.Reasons.{reasons_of, reasons_by, scratch_before, executed_places, GoesByOldRun}
+use Rattle.round_report.specs.declared.why.reason.Reason.{Reason}
+use Rattle.round_report.specs.Reasons.{reasons_of, reasons_by, scratch_before, executed_places, GoesByOldRun}
 use Rattle.memo_spec.specs.Encoding.{AreBytes, memo}
 use Rattle.rerun_spec.specs.Encoded.{IsEncodedPast}
 use Rattle.propagate.specs.Consistency.{IsOfMap}

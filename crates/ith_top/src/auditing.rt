@@ -14,7 +14,7 @@ use super::plan::remember;
 use super::status::Status;
 use ith_host::Host;
 use ith_words::AuditLine;
-use memo_audit::Verdict;
+use memo_reports::audit::{self, Verdict};
 use release_core::History;
 use std::alloc::{AllocError, Global};
 use std::thread::Threads;
@@ -31,8 +31,8 @@ fn verdict_of<R: Threads + Sync>(
     ensures text { IfOk result (λ r. r.1.items ≡ audit_of history.now r.0.first) }
 {
     history_spec::first_false_record_is_the_verdict();
-    let verdict = memo_audit::audit(rt, alloc, history, workers)?;
-    let text = memo_audit::text(alloc, history.records().len() as u64, verdict)?;
+    let verdict = audit::audit(rt, alloc, history, workers)?;
+    let text = audit::text(alloc, history.records().len() as u64, verdict)?;
     Ok((verdict, text))
 }
 

@@ -12,11 +12,11 @@ use ith_host::Gate;
 use propagate::Round;
 use release_core::{History, Setup};
 use rerun_workers::{ClosedRound, Effort, run_round, run_round_watched};
+use rv_isa::{Tally, Turns};
 use std::alloc::{AllocError, Global};
 use std::marker::Model;
 use std::sync::{Arc, Wait};
 use std::thread::Threads;
-use turn_count::{Tally, Turns};
 
 /// How many rounds were made, and how many turns were executed for these. It has no bytes: clauses alone read it, and a
 /// program can't.

@@ -17,10 +17,10 @@ use super::status::Status;
 use ith_host::Host;
 use ith_words::{ExplainLine, RerunLine};
 use propagate::run_alone;
+use round_report::why::{reasons, text};
+use rv_isa::Turns;
 use std::alloc::{AllocError, Global};
 use thunk_record::Compared;
-use turn_count::Turns;
-use why_report::{reasons, text};
 
 /// The rerun that a line explains: one round after the edit list, by one worker and with the memo's limits.
 fn as_rerun<'a>(alloc: Global, line: &ExplainLine<'a>) -> Result<RerunLine<'a>, AllocError>

@@ -25,11 +25,11 @@ use super::showing::show;
 use super::status::Status;
 use ith_host::{Gate, Host};
 use ith_words::{Line, LineFault, RerunLine, RunLine, line_of};
+use rv_isa::Turns;
 use std::alloc::Global;
 use std::sync::Wait;
 use std::thread::Threads;
 use thunk_record::Compared;
-use turn_count::Turns;
 
 /// Makes the rounds of a plan, prints their texts, and writes the memo of what the last one leaves, if it has a name.
 /// The answer is whether each round ended by exit.

@@ -11,7 +11,7 @@ use super::plan::remember;
 use super::status::Status;
 use ith_host::Host;
 use ith_words::RacesLine;
-use race_report::listing;
+use memo_reports::races::listing;
 use std::alloc::Global;
 
 /// The most races that are listed.

@@ -25,9 +25,9 @@ use plain_machine::{Outcome, ReplayError, replay as replay_from_scratch};
 use release_core::Setup;
 use report_spec::Entry;
 use round_report::{ReportData, replayed};
+use rv_isa::Turns;
 use schedule_list::{ParseError, parse};
 use std::alloc::{AllocError, Global};
-use turn_count::Turns;
 
 /// The threads that the text of a schedule says.
 fn threads_of<H: Host>(alloc: Global, host: &mut H, text: &[u8]) -> Result<Vec<u8>, Status>

@@ -11,7 +11,7 @@ use super::plan::remember;
 use super::status::Status;
 use ith_host::Host;
 use ith_words::ShowLine;
-use memo_listing::listing;
+use memo_reports::listing::listing;
 use std::alloc::Global;
 
 /// All that a line that shows a memo asks for.

@@ -1,6 +1,6 @@
 //! What no clause says: that fields are written with ample memory, and read again as they were.
 
-use ith_fields::*;
+use ith_text::*;
 use std::alloc::{AllocError, Global};
 
 /// Two bytes, and a number of each width, as fields.

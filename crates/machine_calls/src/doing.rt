@@ -16,11 +16,10 @@ use super::view::View;
 use guest_call::{Call, EFAULT, EINVAL, Fate};
 use isa_spec::Cause;
 use machine_spec::{Asked, End, Status};
-use object_table::Effect;
-use page_map::PageMap;
-use rv_alu::Regs;
+use page_store::PageMap;
+use rv_isa::Regs;
 use std::alloc::AllocError;
-use sync_objects::Objects;
+use sync_objects::{Effect, Objects};
 use thunk_spec::ThunkEnd;
 
 /// What thread `t`'s thunk with this end and these last registers asks of the machine.

@@ -7,7 +7,7 @@ ghost use Rattle.machine_spec.specs.Machine.{Hart as HartState};
 use super::view::View;
 use guest_call::THREADS;
 use machine_spec::{HEADER, STACK_BYTES, STACKS, Status};
-use rv_alu::Regs;
+use rv_isa::Regs;
 use std::alloc::{AllocError, Global};
 use std::marker::Model;
 

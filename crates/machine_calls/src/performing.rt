@@ -12,10 +12,9 @@ use super::hart::Hart;
 use super::view::View;
 use guest_call::{Call, Fate, THREADS};
 use machine_spec::{Asked, Status};
-use object_table::Effect;
-use rv_alu::Regs;
+use rv_isa::Regs;
 use std::alloc::AllocError;
-use wait_queue::Queue;
+use sync_objects::{Effect, Queue};
 
 /// Thread `t`'s thunk was written: its hart has the last registers, and has made one step more.
 pub fn write_back<V: View>(harts: &mut Vec<Hart<V>>, t: u8, regs: Regs)

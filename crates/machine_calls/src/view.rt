@@ -6,8 +6,7 @@ ghost use Rattle.memory_spec.specs.Pages.{Memory};
 ghost use Rattle.thunk_spec.specs.Put.{is_readable};
 ghost use Rattle.guest_call.specs.Objects.{appends};
 
-use page_map::PageMap;
-use page_store::PageTable;
+use page_store::{PageMap, PageTable};
 use std::alloc::AllocError;
 use std::sync::Arc;
 use thunk_run::Range;

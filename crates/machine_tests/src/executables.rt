@@ -3,7 +3,7 @@
 use super::fixtures::HI;
 use elf_load::*;
 use elf_spec::Refusal;
-use page_map::Perm;
+use page_store::Perm;
 use std::alloc::{AllocError, Global};
 use std::process::Abort;
 use std::test::Fail;

@@ -1,7 +1,6 @@
 //! Words whose operands QEMU and LLVM gave, read at addresses where their targets were worked out by hand.
 
-use page_map::{MappedPage, PageMap, Perm};
-use page_store::{Page, PageTable};
+use page_store::{MappedPage, Page, PageMap, PageTable, Perm};
 use rv_code::{Code, CodePage, Kind, Operation, WORDS};
 use std::alloc::{AllocError, Global};
 use std::sync::Arc;

@@ -3,10 +3,9 @@
 ghost use Rattle.std.specs.Prelude.{◌≡◌, ◌<◌};
 
 use super::fixtures::HI;
-use page_map::{MappedPage, PageMap, Perm};
-use page_store::{Page, PageTable};
-use rv_alu::Regs;
+use page_store::{MappedPage, Page, PageMap, PageTable, Perm};
 use rv_code::Code;
+use rv_isa::{Regs, Turns};
 use std::alloc::{AllocError, Global};
 use std::sync::Arc;
 use std::sync::atomic::{AtomicU64, Ordering};
@@ -14,7 +13,6 @@ use std::thread::Threads;
 use thunk_record::Frame;
 use thunk_run::{Job, LONG_TURNS, Run, Watch, execute, execute_watched};
 use thunk_spec::ThunkEnd;
-use turn_count::Turns;
 
 /// lui t0,0x10; lw t1,0x18(t0); sw t1,0x10(t0); addi a7,x0,0; addi a0,x0,1; ecall; and the word of
 /// addi a0,x0,9.

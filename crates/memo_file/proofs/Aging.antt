@@ -12,8 +12,8 @@ use Rattle.thunk_spec.specs.Delta.{PageDelta, chosen}
 use Rattle.thunk_spec.specs.Record.{Record}
 use Rattle.history_spec.specs.History.{History}
 use Rattle.machine_spec.specs.Setup.{map_of}
-use Rattle.store_mask.specs.Stored.{delta_in}
-use Rattle.store_mask.specs.declared.stored.StoredPage.{StoredPage}
+use Rattle.page_store.specs.Stored.{delta_in}
+use Rattle.page_store.specs.declared.stored.StoredPage.{StoredPage}
 use Rattle.memo_spec.specs.Old.{ends_at_m, last_ends_at_m, is_before_m, ends_at_lock, last_ends_at_lock, is_before_locks}
 
 abbrev one : Bool → ℕ

@@ -9,7 +9,7 @@ use Rattle.memory_spec.specs.Pages.{Mapped}
 use Rattle.thunk_spec.specs.Delta.{PageDelta}
 use Rattle.thunk_spec.specs.Reads.{ReadPage}
 use Rattle.thunk_spec.specs.Ascending.{reads_ascend, deltas_ascend}
-use Rattle.ith_fields.specs.Place.{Place}
+use Rattle.ith_text.specs.Place.{Place}
 use Rattle.memo_spec.specs.declared.Refusal.TheVariants.{Field}
 use Rattle.memo_spec.specs.Reader.{Reader, ◌>>=◌, done, bytes_at, number_at, ruled, tested, chain}
 use Rattle.memo_spec.specs.Reading.{ReadState, slot_of_number, slot_at, used_after, read_page_at, mask_at, stored_page_at}

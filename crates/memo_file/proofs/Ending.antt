@@ -7,7 +7,7 @@ use Rattle.thunk_spec.specs.Record.{Record}
 use Rattle.machine_spec.specs.Setup.{Setup, first, map_of}
 use Rattle.machine_spec.specs.Machine.{Machine}
 use Rattle.history_spec.specs.History.{History, is_coherent}
-use Rattle.ith_fields.specs.Place.{Place, Takes}
+use Rattle.ith_text.specs.Place.{Place, Takes}
 use Rattle.memo_spec.specs.declared.Format.{Format}
 use Rattle.memo_spec.specs.declared.Format.TheVariants.{Version1, Version2}
 use Rattle.memo_spec.specs.declared.Refusal.{Refusal}

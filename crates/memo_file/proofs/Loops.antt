@@ -1,7 +1,7 @@
 -- Reading so many, one after the other, as a loop does.
 use Rattle.std.proofs.Common.{◌≡◌, ℕ, suc, ◌+◌, ◌-◌, ◌<◌, ◌≤◌, List, [], ◌∷◌, ◌++◌, Result, Ok, Err, refl, sym, ap, ◌∙◌, append_assoc, arith}
 use Rattle.std.proofs.lemmas.List.{append-nil}
-use Rattle.ith_fields.specs.Place.{Place}
+use Rattle.ith_text.specs.Place.{Place}
 use Rattle.memo_spec.specs.declared.Refusal.{Refusal}
 use Rattle.memo_spec.specs.Reader.{Reader, onward, done, each, chain, number_at}
 use Rattle.memo_spec.specs.Reading.{registers_at}

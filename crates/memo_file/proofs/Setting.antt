@@ -2,7 +2,7 @@
 use Rattle.std.proofs.Common.{◌≡◌, ℕ, List, Result, Ok, Err, refl, ap, ◌∙◌}
 use Rattle.std.specs.Int.{w32}
 use Rattle.elf_spec.specs.Refusals.{refusal_of}
-use Rattle.ith_fields.specs.Place.{Place}
+use Rattle.ith_text.specs.Place.{Place}
 use Rattle.elf_spec.specs.declared.TheConstants.{MOST_ELF_BYTES}
 use Rattle.machine_spec.specs.declared.TheConstants.{MOST_FUEL, MOST_INPUT_BYTES, MOST_STEPS}
 use Rattle.machine_spec.specs.Limits.{Limits}

@@ -12,7 +12,7 @@ use Rattle.thunk_spec.specs.Reads.{ReadPage}
 use Rattle.thunk_spec.specs.Delta.{PageDelta}
 use Rattle.machine_spec.specs.Setup.{Setup, IsSetup, map_of, data_pages}
 use Rattle.history_spec.specs.History.{History, IsMappedIn, IsMapped}
-use Rattle.ith_fields.specs.Place.{Place}
+use Rattle.ith_text.specs.Place.{Place}
 use Rattle.memo_spec.specs.Encoding.{IsReadPage, IsStoredPage, IsRecord, IsEncodable}
 use Rattle.memo_spec.specs.Reading.{history_at}
 use Rattle.memo_spec.proofs.Top.{agrees_history}

@@ -11,7 +11,7 @@ use Rattle.std.proofs.lemmas.List.Sums.{sum_by-append, sum_by-cons}
 use Rattle.std.proofs.lemmas.Simd.{chunk-drop, ones-mask_l}
 use Rattle.thunk_spec.specs.Delta.{chosen}
 use Rattle.memo_spec.specs.Encoding.{bit, mask}
-use Rattle.store_mask.proofs.Words.{word_marks, marks_left, IsLeft, mark_there, none_before, none_left, all_there}
+use Rattle.page_store.proofs.Words.{word_marks, marks_left, IsLeft, mark_there, none_before, none_left, all_there}
 use Rattle.memo_file.specs.WritingMasks.{marks_in}
 
 -- ---- a word as bytes

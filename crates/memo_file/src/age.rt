@@ -14,9 +14,8 @@ use crate::pages::slot_or_end;
 use isa_spec::Cause;
 use memo_spec::{Format, Refusal};
 use memory_spec::PAGE_SIZE;
-use page_map::PageMap;
+use page_store::{PageDelta, PageMap, ReadPage};
 use release_core::History;
-use store_mask::{PageDelta, ReadPage};
 use thunk_record::Record;
 use thunk_spec::ThunkEnd;
 

@@ -9,9 +9,9 @@ ghost use Rattle.memo_file.specs.declared.error.ReadError.TheVariants as errors;
 ghost use Rattle.memo_file.specs.Gives.{Gives};
 
 use crate::error::ReadError;
-use ith_fields::Cursor;
+use ith_text::Cursor;
 use memo_spec::{Limit, Refusal};
-use rv_alu::Regs;
+use rv_isa::Regs;
 
 /// So many bytes.
 #[tactic(auto, using(crate::proofs::Taken::run_taken, crate::proofs::Taken::run_short))]

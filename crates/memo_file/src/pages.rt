@@ -12,13 +12,12 @@ ghost use Rattle.memo_file.specs.Gives.{Gives};
 use crate::error::ReadError;
 use crate::fields::word;
 use crate::growth::Sources;
-use ith_fields::Cursor;
+use ith_text::Cursor;
 use memo_spec::Refusal;
 use memory_spec::PAGE_SIZE;
-use page_map::{PageMap, Slot};
+use page_store::{PageMap, ReadPage, Slot};
 use std::alloc::Global;
 use std::sync::Arc;
-use store_mask::ReadPage;
 
 /// The slot of an address, or how many pages there are where none has it, as behind the last address.
 pub fn slot_or_end(slots: &PageMap, address: u64) -> usize

@@ -9,7 +9,7 @@ ghost use Rattle.memo_file.specs.Seen.{Knows};
 
 use crate::error::ReadError;
 use crate::fields::run;
-use ith_fields::Cursor;
+use ith_text::Cursor;
 use memo_spec::Refusal;
 use memory_spec::PAGE_SIZE;
 use page_store::Page;

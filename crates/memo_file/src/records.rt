@@ -17,10 +17,10 @@ use crate::pages::read_pages;
 use crate::stored::stored_pages;
 use guest_call::THREADS;
 use isa_spec::Cause;
-use ith_fields::Cursor;
+use ith_text::Cursor;
 use machine_spec::MOST_STEPS;
+use page_store::{Delta, Reads};
 use std::alloc::Global;
-use store_mask::{Delta, Reads};
 use thunk_record::{Kept, Record};
 use thunk_spec::ThunkEnd;
 

@@ -10,7 +10,7 @@ use crate::error::ReadError;
 use crate::fields::{limited, run};
 use elf_load::LoadError;
 use elf_spec::MOST_ELF_BYTES;
-use ith_fields::Cursor;
+use ith_text::Cursor;
 use machine_spec::{Limits, MOST_FUEL, MOST_INPUT_BYTES, MOST_STEPS};
 use memo_spec::{Limit, Refusal};
 use release_core::Setup;

@@ -14,13 +14,11 @@ ghost use Rattle.memo_file.specs.Gives.{Gives};
 use crate::error::ReadError;
 use crate::fields::run;
 use crate::pages::slot;
-use ith_fields::Cursor;
+use ith_text::Cursor;
 use memo_spec::Refusal;
 use memory_spec::PAGE_SIZE;
-use page_map::PageMap;
-use page_store::Page;
+use page_store::{Mask, Page, PageDelta, PageMap, StoredPage};
 use std::alloc::Global;
-use store_mask::{Mask, PageDelta, StoredPage};
 
 /// How many bytes hold the marks of a page.
 const MARK_BYTES: usize = PAGE_SIZE / 8;

@@ -17,7 +17,7 @@ mod stored;
 
 use body::write_body;
 use memo_spec::MOST_MEMO_BYTES;
-use page_map::PageMap;
+use page_store::PageMap;
 use pool::{Pool, pool_of_history};
 use release_core::History;
 use sha2::{Digest, Sha256};

@@ -5,7 +5,7 @@ use Rattle.std.specs.Int.{Width, w8, w16, w32, byte_len, from_le_bytes, to_le_by
 use Rattle.std.proofs.lemmas.Bool.{cases_lt, ltb-false, le-ltb}
 use Rattle.std.proofs.lemmas.List.{take_at, drop_at, append-nil, take-append-drop, length-append, length-take, get_or-drop, get_or-take, get_or_past}
 use Rattle.std.proofs.lemmas.Nat.{le_bytes_2, le_bytes_4, from_le_bytes-to_le_bytes_2, from_le_bytes-to_le_bytes_4}
-use Rattle.ith_fields.specs.Place.{Place, Takes}
+use Rattle.ith_text.specs.Place.{Place, Takes}
 use Rattle.memo_spec.specs.declared.Refusal.{Refusal}
 use Rattle.memo_spec.specs.declared.Refusal.TheVariants.{Field}
 use Rattle.memo_spec.specs.Encoding.{AreBytes}

@@ -9,7 +9,7 @@ use Rattle.elf_spec.specs.declared.Refusal as elf
 use Rattle.elf_spec.specs.Refusals.{refusal_of}
 use Rattle.elf_spec.specs.Image.{is_image}
 use Rattle.machine_spec.specs.Setup.{Setup, IsSetup}
-use Rattle.ith_fields.specs.Place.{Place}
+use Rattle.ith_text.specs.Place.{Place}
 use Rattle.memo_spec.specs.declared.Refusal.{Refusal}
 use Rattle.memo_spec.specs.declared.Refusal.TheVariants.{Limit}
 use Rattle.memo_spec.specs.declared.Limit.TheVariants as limit

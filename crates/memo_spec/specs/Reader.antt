@@ -1,7 +1,7 @@
 -- Readers of fields: each gives what it read and the place behind it, or a refusal.
 use Rattle.std.specs.Prelude.{ℕ, ◌+◌, zero, suc, Bool, nat_lt, if◌then◌else◌, List, [], ◌∷◌, length, take, drop, Result, Ok, Err}
 use Rattle.std.specs.Int.{Width, byte_len, from_le_bytes}
-use Rattle.ith_fields.specs.Place.{Place}
+use Rattle.ith_text.specs.Place.{Place}
 use Rattle.memo_spec.specs.declared.Refusal.{Refusal}
 use Rattle.memo_spec.specs.declared.Refusal.TheVariants.{Field}
 

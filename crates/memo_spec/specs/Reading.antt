@@ -21,7 +21,7 @@ use Rattle.machine_spec.specs.Machine.{Machine}
 use Rattle.machine_spec.specs.Step.{apply, fits}
 use Rattle.machine_spec.specs.Setup.{Setup, map_of, first}
 use Rattle.history_spec.specs.History.{History, is_coherent}
-use Rattle.ith_fields.specs.Place.{Place}
+use Rattle.ith_text.specs.Place.{Place}
 use Rattle.memo_spec.specs.declared.Format.{Format}
 use Rattle.memo_spec.specs.declared.Format.TheVariants.{Version1, Version2}
 use Rattle.memo_spec.specs.declared.Limit.TheVariants as limit

@@ -1,9 +1,7 @@
 //! A commit writes the marked bytes, and leaves what was shared before.
 
-use page_commit::*;
-use page_store::{PAGE_SIZE, Page, PageTable};
+use page_store::{Delta, PAGE_SIZE, Page, PageDelta, PageTable, StoredPage, *};
 use std::alloc::{AllocError, Global};
-use store_mask::{Delta, PageDelta, StoredPage};
 
 #[test]
 fn a_snapshot_keeps_what_it_has(rt: HostRuntime) -> Result<(), AllocError> {

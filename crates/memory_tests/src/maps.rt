@@ -1,7 +1,7 @@
 //! A guest's map, looked up at its edges.
 
 use bitflags::Flags;
-use page_map::*;
+use page_store::*;
 use std::alloc::AllocError;
 
 #[test]

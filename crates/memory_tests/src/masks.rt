@@ -1,8 +1,8 @@
 //! Merging with no mark, with all, and with one alone at the edges of words and of the page, and which bits of its
 //! words a mask has.
 
+use page_store::Mask;
 use std::process::Abort;
-use store_mask::Mask;
 
 /// Merges a page of twos into one of ones, and compares: the marked places are two.
 fn compare<R: Abort>(rt: &R, mask: &Mask, is_marked: &[bool; 4096]) {

@@ -1,13 +1,11 @@
 //! A thread's memory, from its view to its stored bytes.
 
 use memory_spec::{MemoryError, Size};
-use page_map::{MappedPage, Mem, PageMap, Perm};
-use page_store::{PAGE_SIZE, Page, PageTable};
+use page_store::{Delta, MappedPage, Mem, PAGE_SIZE, Page, PageMap, PageTable, Perm};
 use priv_space::*;
 use std::alloc::AllocError;
 use std::process::Abort;
 use std::sync::Arc;
-use store_mask::Delta;
 
 #[test]
 fn stores_stay_with_the_thread(rt: HostRuntime) -> Result<(), AllocError> {

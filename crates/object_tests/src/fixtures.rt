@@ -8,11 +8,9 @@ ghost use Rattle.object_tests.specs.Crowds.{AreIdle};
 ghost use Rattle.sync_objects.specs.Puts.{is_put};
 
 use guest_call::{Call, Fate, THREADS, threads_are_few};
-use object_table::Effect;
 use std::alloc::{AllocError, Global};
 use std::process::Abort;
-use sync_objects::Objects;
-use wait_queue::Queue;
+use sync_objects::{Effect, Objects, Queue};
 
 /// Objects with 32 threads, and whether each of them waits.
 #[derive(Drop)]

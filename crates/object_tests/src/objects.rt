@@ -5,9 +5,8 @@ ghost use Rattle.sync_objects.specs.Puts.{is_put};
 
 use super::fixtures::{assert_returns, negated};
 use guest_call::{Call, Fate, Object};
-use object_table::Effect;
 use std::alloc::{AllocError, Global};
-use sync_objects::{ActedOn, Objects};
+use sync_objects::{ActedOn, Effect, Objects};
 
 /// What a call does that thread 0 makes at the start.
 fn first(alloc: Global, call: Call) -> Result<Effect, AllocError>

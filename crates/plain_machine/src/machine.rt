@@ -14,15 +14,13 @@ use super::stores::lay_all;
 use super::thunk::{ThunkResult, run};
 use machine_calls::{Hart, Written, asked, do_as_asked, first_harts, write_back};
 use machine_spec::{Asked, End, Status};
-use object_table::Effect;
-use page_map::PageMap;
-use page_store::PageTable;
+use page_store::{PageMap, PageTable};
 use release_core::Setup;
+use rv_isa::Turns;
 use std::alloc::{AllocError, Global};
 use std::marker::Model;
 use std::sync::Arc;
-use sync_objects::Objects;
-use turn_count::Turns;
+use sync_objects::{Effect, Objects};
 
 /// What a step did.
 #[derive(Drop)]

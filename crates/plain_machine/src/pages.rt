@@ -5,7 +5,7 @@ ghost use Rattle.memory_spec.specs.Pages.{Mapped, allows, execute_right, permiss
 ghost use Rattle.plain_machine.specs.Fetching.{IsLast};
 
 use memory_spec::PAGE_SIZE;
-use page_map::{PageMap, Perm};
+use page_store::{PageMap, Perm};
 
 /// The slot of an address, and what its page permits. None exactly where no page has it.
 #[inline(always)]

@@ -9,8 +9,8 @@ ghost use Rattle.guest_call.specs.Objects.{appends};
 use super::memory::Memory;
 use guest_call::Call;
 use memory_spec::PAGE_SIZE;
-use page_map::PageMap;
-use rv_alu::Regs;
+use page_store::PageMap;
+use rv_isa::Regs;
 use std::alloc::{AllocError, Global};
 use thunk_spec::ThunkEnd;
 

@@ -7,8 +7,8 @@ use super::machine::PlainMachine;
 use machine_spec::End;
 use page_store::PageTable;
 use release_core::Setup;
+use rv_isa::Turns;
 use std::alloc::{AllocError, Global};
-use turn_count::Turns;
 
 /// What a schedule from scratch comes to.
 #[derive(Drop)]

@@ -8,7 +8,7 @@ ghost use Rattle.plain_machine.specs.Stored.{bytes_of};
 use super::memory::Memory;
 use super::pages::offset_of;
 use memory_spec::Size;
-use page_map::PageMap;
+use page_store::PageMap;
 use std::alloc::AllocError;
 use std::marker::Model;
 

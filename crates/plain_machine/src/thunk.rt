@@ -9,13 +9,12 @@ use super::memory::Memory;
 use super::put::put_bytes;
 use super::stores::Stored;
 use super::work::Work;
-use page_map::PageMap;
-use rv_alu::Regs;
+use page_store::PageMap;
+use rv_isa::{Regs, Turns};
 use rv_step::step;
 use std::alloc::{AllocError, Global};
 use std::sync::Arc;
 use thunk_spec::{Outcome, ThunkEnd};
-use turn_count::Turns;
 
 /// How turns ended, and how many they were.
 #[derive(Clone, Copy)]

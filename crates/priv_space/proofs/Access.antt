@@ -7,7 +7,7 @@ use Rattle.memory_spec.specs.Pages.{Mapped, Memory, slot_of, page_of}
 use Rattle.memory_spec.specs.Stores.{with_byte, laid}
 use Rattle.memory_spec.specs.Access.{byte_count, bytes_stored}
 use Rattle.memory_spec.specs.Workspace.{Masks, mask_of, with_mark, marked}
-use Rattle.page_map.proofs.Slots.{slot_of-page}
+use Rattle.page_store.proofs.Slots.{slot_of-page}
 use Rattle.priv_space.specs.Written.{byte_of, with_number, with_marks}
 
 -- One is put at an address, into the page that has it.

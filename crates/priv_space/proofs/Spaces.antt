@@ -8,7 +8,7 @@ use Rattle.memory_spec.specs.Access.{byte_count, bytes_stored, number_in, number
 use Rattle.memory_spec.specs.Stores.{laid}
 use Rattle.memory_spec.specs.Workspace.{mask_of, marked, fresh, after_taking, after_storing}
 use Rattle.priv_space.specs.Written.{with_number, with_marks}
-use Rattle.page_map.specs.Entering.{Enters}
+use Rattle.page_store.specs.Entering.{Enters}
 use Rattle.priv_space.specs.declared.slot.Slot.{Slot}
 use Rattle.priv_space.specs.Slots.{on_view, untouched, slot_shared, slot_bytes, slot_marks, slot_taken, SharesPage, IsPermitted, Fits}
 use Rattle.priv_space.specs.Changes.{Keeps, HasNumber, TakesByte, EntersPage, StoresNumber, StoresAgain, OnSlot}

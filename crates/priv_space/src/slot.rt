@@ -10,11 +10,10 @@ ghost use Rattle.priv_space.specs.Slots.{untouched, SharesPage, slot_bytes, slot
 ghost use Rattle.priv_space.specs.Changes.{IsWithin, any, HasNumber, TakesByte, TakesNumber, EntersPage, StoresNumber, StoresAgain};
 
 use memory_spec::{PAGE_SIZE, Size};
-use page_store::{Page, PageTable};
+use page_store::{Mask, Page, PageDelta, PageTable, ReadPage, StoredPage};
 use std::alloc::{AllocError, Global};
 use std::mem;
 use std::sync::Arc;
-use store_mask::{Mask, PageDelta, ReadPage, StoredPage};
 
 /// What the thread holds of a page, and whether it took a byte of it.
 ///

@@ -12,11 +12,10 @@ ghost use Rattle.priv_space.specs.Held.{HoldsSlot, PlacesSlot, FindsNext, FindsL
 
 use super::slot::{Access, Slot};
 use memory_spec::PAGE_SIZE;
-use page_store::PageTable;
+use page_store::{PageDelta, PageTable, ReadPage};
 use std::alloc::{AllocError, Global};
 use std::marker::Model;
 use std::mem;
-use store_mask::{PageDelta, ReadPage};
 
 /// How many slots are looked at in one go for one that was touched.
 const BLOCK: usize = 32;

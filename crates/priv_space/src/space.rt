@@ -11,12 +11,10 @@ ghost use Rattle.thunk_spec.specs.Reads.{reads_from};
 use super::slot::Access;
 use super::slots::{self, Slots};
 use memory_spec::{MemoryError, PAGE_SIZE, Size};
-use page_map::{Mem, PageMap, Perm};
-use page_store::PageTable;
+use page_store::{Delta, Mem, PageMap, PageTable, Perm, Reads};
 use std::alloc::{AllocError, Global};
 use std::marker::Model;
 use std::sync::Arc;
-use store_mask::{Delta, Reads};
 
 /// A view that a thread works on, with its own stores laid over it. It shares the view, takes a share of
 /// a page at the first load from it, and copies a page when it first stores to it; the pages that

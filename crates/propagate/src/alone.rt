@@ -20,11 +20,11 @@ use super::round::Round;
 use ith_host::{Gate, OpenGate};
 use release_core::{History, Setup};
 use round_spec::Pick;
+use rv_isa::Turns;
 use std::alloc::{AllocError, Global};
 use std::sync::Arc;
 use thunk_record::Compared;
 use thunk_run::execute;
-use turn_count::Turns;
 
 /// Takes, executes and commits the next step of thread `t`, which may be taken. The counter rises by
 /// the instructions that it made.

@@ -15,12 +15,11 @@ ghost use Rattle.propagate.specs.Alike as alike;
 use super::inputs::mark_parts;
 use guest_call::Call;
 use machine_spec::INPUT_PAGES;
-use page_store::PageTable;
+use page_store::{PageTable, ReadPage};
 use release_core::{History, Setup};
-use rv_alu::Regs;
+use rv_isa::Regs;
 use std::alloc::{AllocError, Global};
 use std::sync::Arc;
-use store_mask::ReadPage;
 use thunk_record::Record;
 use thunk_spec::ThunkEnd;
 

@@ -18,13 +18,12 @@ ghost use Rattle.propagate.specs.Choosing.{comes_before, has_made, HaveMade, can
 
 use super::marks::all_unmarked;
 use super::round::Round;
-use depend_graph::Graph;
+use depend_graph::{Clock, Graph};
 use guest_call::THREADS;
 use release_core::Core;
 use round_spec::Pick;
 use std::sync::Arc;
 use thunk_record::{Compared, Record};
-use vclock::Clock;
 
 /// What the choice looks at of a thread: the place of its next step in the history, and how many
 /// steps it has made.

@@ -13,10 +13,9 @@ ghost use Rattle.propagate.specs.Versions.{with_each, stored_version, seen_versi
 use super::times::{PageVersion, Times, set};
 use depend_graph::Graph;
 use machine_spec::MOST_STEPS;
-use page_store::PageTable;
+use page_store::{PageTable, ReadPage};
 use release_core::{Core, History};
 use std::alloc::{AllocError, Global};
-use store_mask::ReadPage;
 use thunk_record::{Compared, Record, has_read};
 
 /// Which versions of pages a step of a history reads and writes.

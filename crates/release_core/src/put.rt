@@ -6,9 +6,7 @@ ghost use Rattle.thunk_spec.specs.Put.{byte_at, bytes_at, is_readable};
 ghost use Rattle.thunk_spec.specs.Delta.{masked};
 ghost use Rattle.thunk_spec.specs.Record.{put_of};
 
-use page_commit::committed_page;
-use page_map::PageMap;
-use page_store::{Page, PageTable};
+use page_store::{Page, PageMap, PageTable, committed_page};
 use std::alloc::{AllocError, Global};
 use thunk_record::Record;
 use thunk_run::{Range, put_range};

@@ -9,8 +9,7 @@ use bitflags::Flags;
 use machine_spec::{
     HEADER_PAGE, INPUT_PAGE, INPUT_PAGES, MOST_INPUT_BYTES, STACK_PAGE, STACK_PAGES,
 };
-use page_map::{MappedPage, PageMap, Perm};
-use page_store::{Page, PageTable};
+use page_store::{MappedPage, Page, PageMap, PageTable, Perm};
 use std::alloc::{AllocError, Global};
 use std::sync::Arc;
 

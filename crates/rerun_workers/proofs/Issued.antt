@@ -18,7 +18,7 @@ use Rattle.history_spec.proofs.Truth.{past-of}
 use Rattle.thunk_run.specs.declared.job.Job.{Job}
 use Rattle.thunk_run.specs.declared.job.Run.{Run}
 use Rattle.release_core.specs.Jobs.{IsJobOf}
-use Rattle.tickets.specs.Views.{TicketView, IssuerView, job_of}
+use Rattle.shared_words.specs.TicketViews.{TicketView, IssuerView, job_of}
 use Rattle.round_spec.specs.declared.events.Event.{Event}
 use Rattle.round_spec.specs.declared.events.Event.TheVariants.{Take, Reuse, Commit, GiveBack, Stop}
 use Rattle.round_spec.specs.Marks.{record_for, fits_next}

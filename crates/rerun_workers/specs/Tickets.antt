@@ -5,7 +5,7 @@ use Rattle.thunk_run.specs.declared.job.Job.{Job}
 use Rattle.thunk_run.specs.declared.job.Run.{Run}
 use Rattle.thunk_run.specs.Running.{IsRunOf}
 use Rattle.release_core.specs.Jobs.{IsJobOf}
-use Rattle.tickets.specs.Views.{TicketView, IssuerView, IsForLastJob}
+use Rattle.shared_words.specs.TicketViews.{TicketView, IssuerView, IsForLastJob}
 use Rattle.round_spec.specs.Rounds.{RoundState, is_in_flight}
 use Rattle.rerun_workers.specs.declared.locked.Task.{Task}
 use Rattle.rerun_workers.specs.declared.locked.Task.TheVariants as task

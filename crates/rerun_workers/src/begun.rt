@@ -3,8 +3,8 @@
 ghost use Rattle.std.proofs.Props.{props};
 ghost use Rattle.rerun_workers.specs.Tickets.{IsTicketOf};
 
+use shared_words::Ticket;
 use thunk_run::Job;
-use tickets::Ticket;
 
 /// A step that was begun for a worker, with its ticket, if there is one.
 #[derive(Drop)]

@@ -2,9 +2,9 @@
 
 ghost use Rattle.std.specs.Prelude.{◌≡◌, ◌+◌};
 
+use rv_isa::Turns;
 use std::thread::Threads;
 use thunk_record::Compared;
-use turn_count::Turns;
 
 /// What a worker's work takes. At run time it has no bytes.
 #[derive(Drop)]

@@ -25,10 +25,10 @@ use super::naming::{Naming, Pass};
 use super::watching::Counter;
 use propagate::{Committed, Round};
 use round_spec::Pick;
+use shared_words::{Issuer, Ticket};
 use std::alloc::AllocError;
 use std::sync::ledger::Book;
 use thunk_run::{Job, Run};
-use tickets::{Issuer, Ticket};
 
 /// What a worker is to do next.
 #[derive(Drop)]

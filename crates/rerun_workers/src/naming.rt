@@ -9,18 +9,18 @@ ghost use Rattle.round_spec.specs.Unedited.{IsUnedited};
 ghost use Rattle.rerun_workers.specs.declared.begun.Begun.{Begun as StepBegun};
 ghost use Rattle.atomic_table.specs.Seated.{TableId};
 ghost use Rattle.logbook.specs.Pages.{Book};
-ghost use Rattle.progress_word.specs.Views.{no_table};
-ghost use Rattle.tickets.specs.Views.{no_book};
+ghost use Rattle.shared_words.specs.Views.{no_table};
+ghost use Rattle.shared_words.specs.TicketViews.{no_book};
 ghost use Rattle.rerun_workers.specs.Making.{ComparesNone};
 ghost use Rattle.rerun_workers.specs.Passes.{held};
 ghost use Rattle.rerun_workers.specs.Tickets.{IsNamed};
 
 use super::begun::Begun;
 use super::effort::Effort;
+use rv_isa::Tally;
+use shared_words::{Issuer, Ticket};
 use std::marker::Brand;
 use std::sync::ledger::{Blank, Ledger, Share};
-use tickets::{Issuer, Ticket};
-use turn_count::Tally;
 
 /// What the round of a board starts from, the history that it uses, its numbers of workers and of watches, the word
 /// that watches read, and the book of its tickets. The types of the board, of its passes and of its watches name all of

@@ -9,9 +9,9 @@ ghost use Rattle.round_spec.specs.declared.TheConstants.{MOST_LOOKS};
 
 use super::board::Board;
 use super::naming::Naming;
-use progress_word::{Reader, Word, Writer};
 use propagate::Round;
 use round_spec::MOST_LOOKS;
+use shared_words::{Reader, Word, Writer};
 use std::alloc::{AllocError, Global};
 use std::marker::PhantomData;
 use std::sync::Arc;

@@ -21,12 +21,12 @@ use guest_call::THREADS;
 use propagate::{Committed, Round};
 use release_core::{History, Setup};
 use round_spec::Event;
+use rv_isa::Turns;
 use std::alloc::{AllocError, Global};
 use std::array;
 use std::sync::Arc;
 use thunk_record::Compared;
 use thunk_run::{Job, execute};
-use turn_count::Turns;
 
 /// A round, and the job of each thread that is in flight.
 #[derive(Drop)]

@@ -1,4 +1,4 @@
-//! The report of a round as text, a round in one line, and what a replay tells.
+//! The report of a round as text, a round in one line, what a replay tells, and why steps were executed.
 #![tactic(auto)]
 
 mod data;
@@ -8,6 +8,7 @@ mod lines;
 mod one_line;
 mod replay;
 mod report;
+pub mod why;
 
 pub use data::ReportData;
 pub use digest::Digested;

@@ -5,8 +5,9 @@
 //!   what it leaves is an honest history; places and clocks tell who is due; every order which keeps what must come
 //!   before what can be reused whole.
 //! - The round of one worker and those of many: the schedule is permitted and complete; what is executed is what the
-//!   executed entries sum up to; each entry is picked rightly; and if a setup is run again by its own honest history,
-//!   each step is reused, however many workers there are.
+//!   executed entries sum up to; each entry is picked rightly; with no history one worker does as in a run with no
+//!   earlier run; and if a setup is run again by its own honest history, each step is reused, however many workers there
+//!   are.
 //! - Which steps of a history an edit can reach: they are the least set which is closed under what carries a difference
 //!   on, and a round whose executed steps work as the old ones did executes no others.
 //! - Races of a history: which pairs of its steps touch a page without an order by threads and objects.

@@ -11,6 +11,7 @@ use super::fixtures::{is_round, setup};
 use ith_host::{Gate, OpenGate};
 use propagate::Round;
 use rerun_workers::{Blanks, Board, ClosedRound, CommitOutcome, Naming, Pass, Task, run_round};
+use rv_isa::Turns;
 use std::alloc::{AllocError, Global};
 use std::marker::Brand;
 use std::process::Abort;
@@ -19,7 +20,6 @@ use std::sync::{Arc, Wait};
 use std::test::Fail;
 use std::thread::Threads;
 use thunk_run::{Job, Run, execute};
-use turn_count::Turns;
 
 /// A round of the guest before its first step, with so much fuel.
 fn opened(alloc: Global, fuel: u32) -> Result<Round, Fail>

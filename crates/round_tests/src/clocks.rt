@@ -1,8 +1,8 @@
 //! Each call once.
 
+use depend_graph::*;
 use guest_call::THREADS;
 use std::test::Fail;
-use vclock::*;
 
 #[test]
 fn clocks_tick_join_and_cover(rt: HostRuntime) -> Result<(), Fail> {

@@ -7,15 +7,14 @@ ghost use Rattle.std.specs.Arc.{arc_value};
 ghost use Rattle.history_spec.specs.History.{IsMappedIn};
 
 use machine_spec::{End, Limits};
-use page_store::Page;
+use page_store::{Delta, Page, PageDelta, ReadPage, Reads, StoredPage};
 use propagate::Round;
 use release_core::{History, Records, Setup};
 use report_spec::Entry;
-use rv_alu::Regs;
+use rv_isa::Regs;
 use std::alloc::{AllocError, Global};
 use std::sync::Arc;
 use std::test::Fail;
-use store_mask::{Delta, PageDelta, ReadPage, Reads, StoredPage};
 use thunk_record::{Kept, Record};
 use thunk_spec::ThunkEnd;
 

@@ -5,7 +5,7 @@ use super::fixtures::{Words, calling, history_of, record_of};
 use depend_graph::Fact;
 use guest_call::Object;
 use history_facts::facts;
-use rv_alu::Regs;
+use rv_isa::Regs;
 use std::alloc::Global;
 use std::process::Abort;
 use std::test::Fail;

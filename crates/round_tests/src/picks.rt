@@ -7,13 +7,13 @@ use propagate::{Committed, Round, run_alone};
 use release_core::History;
 use round_driver::drive;
 use round_spec::{Event, Pick};
+use rv_isa::Turns;
 use std::alloc::Global;
 use std::sync::Arc;
 use std::test::Fail;
 use std::thread::Threads;
 use thunk_record::Compared;
 use thunk_run::{Run, execute};
-use turn_count::Turns;
 
 /// What makes a round: one worker, or given events.
 #[derive(Clone, Copy)]

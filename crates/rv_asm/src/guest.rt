@@ -6,7 +6,7 @@ ghost use Rattle.rv_asm.specs.File.{halves, words, file_header, segment_header, 
 ghost use Rattle.rv_asm.specs.Guest.{pages_taken, IsGuest};
 
 use crate::item::{Item, written};
-use ith_fields::Out;
+use ith_text::Out;
 use std::alloc::{AllocError, Global};
 
 /// The identification of an ELF32 file with the lowest byte first (System V gABI, ch. 4, ELF Identification).

@@ -5,8 +5,8 @@ ghost use Rattle.byteorder.specs.Endian.{little_bytes};
 ghost use Rattle.rv_asm.specs.Items.{item_bytes, items_bytes, IsWritable};
 
 use isa_spec::Instr;
-use ith_fields::Out;
-use rv_decode::encode;
+use ith_text::Out;
+use rv_isa::encode;
 use std::alloc::{AllocError, Global};
 
 /// What stands at a guest's base, one after the other.

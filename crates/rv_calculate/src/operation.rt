@@ -3,7 +3,7 @@
 ghost use Rattle.std.specs.Prelude.{◌≡◌};
 ghost use Rattle.rv_calculate.specs.Results.{result_of};
 
-use rv_alu::{BranchTest, ImmediateOperation, RegisterOperation, ShiftOperation};
+use rv_isa::{BranchTest, ImmediateOperation, RegisterOperation, ShiftOperation};
 
 /// What an instruction computes on two words.
 #[derive(Clone, Copy)]
@@ -92,10 +92,10 @@ impl Operation {
         ensures { result ≡ result_of self a b }
     {
         match self {
-            Operation::Branch(test) => u32::from(rv_alu::is_taken(test, a, b)),
-            Operation::Immediate(operation) => rv_alu::immediate(operation, a, b),
-            Operation::Shift(shift) => rv_alu::shift(shift, a, (b & 0xff) as u8),
-            Operation::Register(operation) => rv_alu::register(operation, a, b),
+            Operation::Branch(test) => u32::from(rv_isa::is_taken(test, a, b)),
+            Operation::Immediate(operation) => rv_isa::immediate(operation, a, b),
+            Operation::Shift(shift) => rv_isa::shift(shift, a, (b & 0xff) as u8),
+            Operation::Register(operation) => rv_isa::register(operation, a, b),
         }
     }
 }

@@ -6,8 +6,7 @@ ghost use Rattle.rv_code.specs.Pages.{IsDecodedAs, AreDecoded};
 
 use super::page::CodePage;
 use memory_spec::PAGE_NUMBERS;
-use page_map::PageMap;
-use page_store::PageTable;
+use page_store::{PageMap, PageTable};
 use std::alloc::{AllocError, Global};
 use std::marker::Model;
 

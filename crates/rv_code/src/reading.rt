@@ -12,7 +12,7 @@ use isa_spec::{
     BranchTest, ImmediateOperation, Instr, Load, RegisterOperation, ShiftOperation, Store,
 };
 use memory_spec::PAGE_SIZE;
-use rv_decode::decode;
+use rv_isa::decode;
 
 /// The index of a target's word in the page of an address; none where the page has no word there.
 fn index_in_page(target: u32, address: u32) -> Option<u32>

@@ -1,6 +1,6 @@
 //! Instructions as text: a mnemonic, then `NAME=VALUE` for each operand.
 
-use rv_decode::{
+use rv_isa::{
     BranchTest, ImmediateOperation, Instr, Load, RegisterOperation, ShiftOperation, Store,
 };
 use std::fmt;

@@ -18,7 +18,7 @@ mod assembly;
 
 use assembly::Assembly;
 use hex_word::word_in;
-use rv_decode::decode;
+use rv_isa::decode;
 use std::alloc::Global;
 use std::io;
 use std::io::{BufRead, BufReader, BufWriter, Write};

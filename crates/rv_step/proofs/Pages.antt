@@ -18,8 +18,8 @@ use Rattle.memory_spec.specs.Access.{byte_count, byte_stored, bytes_stored, numb
 use Rattle.memory_spec.specs.Workspace.{Workspace, taken_at, after_taking, after_storing}
 use Rattle.thunk_spec.specs.declared.ends.Outcome.TheVariants.{Next}
 use Rattle.thunk_spec.specs.Turn.{Turn, turn, word_turn, with_fetch, executed, passed, load_size, load_result, store_size}
-use Rattle.page_map.specs.Entering.{RunsFrom}
-use Rattle.page_map.proofs.Slots.{slot_of-page, number-slot_of}
+use Rattle.page_store.specs.Entering.{RunsFrom}
+use Rattle.page_store.proofs.Slots.{slot_of-page, number-slot_of}
 use Rattle.rv_code.specs.declared.operation.Operation.{Operation}
 use Rattle.rv_code.specs.Meaning.{Decoded, IsCodeOf, instr_of, other}
 use Rattle.rv_step.specs.declared.placed.Placed.{Placed}

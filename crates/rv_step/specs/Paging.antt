@@ -6,7 +6,7 @@ use Rattle.isa_spec.specs.Words.{sum_of}
 use Rattle.memory_spec.specs.Workspace.{Workspace}
 use Rattle.thunk_spec.specs.declared.ends.Outcome.TheVariants.{Next}
 use Rattle.thunk_spec.specs.Turn.{executed}
-use Rattle.page_map.specs.Entering.{RunsFrom}
+use Rattle.page_store.specs.Entering.{RunsFrom}
 use Rattle.rv_code.specs.declared.operation.Operation.{Operation}
 use Rattle.rv_code.specs.Meaning.{instr_of}
 use Rattle.rv_step.specs.declared.placed.Flow.{Flow}

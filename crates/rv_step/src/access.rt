@@ -10,8 +10,8 @@ ghost use Rattle.rv_step.specs.Step.{Makes};
 use super::control::advance;
 use isa_spec::{Cause, Load, Store};
 use memory_spec::{MemoryError, Size};
-use page_map::Mem;
-use rv_alu::Regs;
+use page_store::Mem;
+use rv_isa::Regs;
 use std::alloc::AllocError;
 use thunk_spec::Outcome;
 

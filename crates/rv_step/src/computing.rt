@@ -8,7 +8,7 @@ ghost use Rattle.rv_step.specs.Paging.{Leads, instr_placed, word_at};
 
 use super::placed::{Flow, Placed};
 use isa_spec::{ImmediateOperation, RegisterOperation, ShiftOperation};
-use rv_alu::{Regs, immediate, register, shift};
+use rv_isa::{Regs, immediate, register, shift};
 
 /// An operation whose result is its immediate.
 #[inline(always)]

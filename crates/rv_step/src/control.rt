@@ -8,7 +8,7 @@ ghost use Rattle.thunk_spec.specs.Turn.{advanced, linked, jumped, branched};
 ghost use Rattle.rv_step.specs.Step.{untouched};
 
 use isa_spec::{BranchTest, Cause, ImmediateOperation, RegisterOperation, ShiftOperation};
-use rv_alu::{Regs, immediate, is_taken, register, shift};
+use rv_isa::{Regs, immediate, is_taken, register, shift};
 use thunk_spec::Outcome;
 
 /// Goes on at the next instruction (RISC-V unprivileged ISA 20191213, 2.1).

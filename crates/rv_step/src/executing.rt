@@ -9,9 +9,9 @@ use super::jumping::{branch, jump, jump_and_link, jump_far, jump_to_register};
 use super::moving::{load, store};
 use super::placed::{Flow, Placed};
 use isa_spec::{BranchTest, ImmediateOperation, Load, RegisterOperation, ShiftOperation, Store};
-use page_map::Mem;
-use rv_alu::Regs;
+use page_store::Mem;
 use rv_code::Kind;
+use rv_isa::Regs;
 use std::alloc::AllocError;
 
 /// A match over a kind with one arm for each, so that one jump leads to what executes it. Each entry names a function,

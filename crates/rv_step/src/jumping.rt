@@ -11,7 +11,7 @@ ghost use Rattle.rv_step.specs.Paging.{Leads, instr_placed, word_at};
 use super::placed::{Flow, Placed};
 use isa_spec::BranchTest;
 use memory_spec::PAGE_NUMBERS;
-use rv_alu::{Regs, is_taken};
+use rv_isa::{Regs, is_taken};
 
 /// The address of a word, by the number of its page and its index there; the one behind the last page's last is 0.
 #[inline(always)]

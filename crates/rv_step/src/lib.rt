@@ -14,7 +14,7 @@ mod turn;
 
 pub use isa_spec::Cause;
 pub use page::{PageEnd, Ran, run_page};
-pub use page_map::Mem;
-pub use rv_alu::Regs;
+pub use page_store::Mem;
+pub use rv_isa::Regs;
 pub use thunk_spec::Outcome;
 pub use turn::step;

@@ -9,8 +9,8 @@ use super::access::{extended, is_aligned, size_loaded, size_stored};
 use super::placed::{Flow, Placed};
 use isa_spec::{Load, Store};
 use memory_spec::MemoryError;
-use page_map::Mem;
-use rv_alu::Regs;
+use page_store::Mem;
+use rv_isa::Regs;
 use std::alloc::AllocError;
 
 /// A load. One that traps is left to a turn of its own.

@@ -2,7 +2,7 @@
 
 ghost use Rattle.std.specs.Prelude.{◌≡◌, ℕ, ◌+◌, ◌/◌, ◌%◌, ◌≤◌, IfOk, OnErr, slice_index_or};
 ghost use Rattle.isa_spec.specs.Registers.{with_pc};
-ghost use Rattle.page_map.specs.Entering.{RunsFrom};
+ghost use Rattle.page_store.specs.Entering.{RunsFrom};
 ghost use Rattle.rv_code.specs.Meaning.{IsCodeOf, other};
 ghost use Rattle.rv_step.specs.Paging.{operation_of};
 ghost use Rattle.rv_step.specs.Step.{Follow};
@@ -11,11 +11,10 @@ ghost use Rattle.rv_step.specs.declared.page.PageEnd.TheVariants as end;
 use super::executing::execute_operation;
 use super::jumping::address_of;
 use super::placed::{Flow, Placed};
-use page_map::Mem;
-use rv_alu::Regs;
+use page_store::Mem;
 use rv_code::CodePage;
+use rv_isa::{Regs, Turns};
 use std::alloc::AllocError;
-use turn_count::Turns;
 
 /// Why turns in a page ended.
 #[derive(Clone, Copy, PartialEq, Eq)]

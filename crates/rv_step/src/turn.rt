@@ -13,12 +13,10 @@ use super::control::{
 };
 use isa_spec::{Cause, Instr};
 use memory_spec::MemoryError;
-use page_map::Mem;
-use rv_alu::Regs;
-use rv_decode::decode;
+use page_store::Mem;
+use rv_isa::{Regs, Turns, decode};
 use std::alloc::AllocError;
 use thunk_spec::Outcome;
-use turn_count::Turns;
 
 /// Executes an instruction (RISC-V unprivileged ISA 20191213, chapters 2 and 7).
 #[inline(always)]

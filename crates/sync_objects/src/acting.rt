@@ -6,10 +6,10 @@ ghost use Rattle.sync_objects.specs.Pairs.{leave_objects_in};
 ghost use Rattle.sync_objects.specs.Acting.{objects_in};
 ghost use Rattle.sync_objects.specs.Puts.{is_put};
 
+use super::barriers::LARGEST_COUNT;
+use super::conditions::Conditions;
+use super::semaphores::LARGEST_VALUE;
 use guest_call::{Call, OBJECTS, Object};
-use sync_barrier::LARGEST_COUNT;
-use sync_cond::Conditions;
-use sync_sem::LARGEST_VALUE;
 
 /// Whether an object of each kind has this number.
 pub(super) fn is_object(number: u32) -> bool

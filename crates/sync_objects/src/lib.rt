@@ -8,25 +8,35 @@ ghost use Rattle.guest_call.specs.Effect.{wakes};
 ghost use Rattle.guest_call.specs.Mutexes.{mutex_queue};
 ghost use Rattle.guest_call.specs.Conditions.{condition_queue, signal_leaving, broadcast_leaving};
 ghost use Rattle.guest_call.specs.Objects as spec;
-ghost use Rattle.sync_mutex.specs.Admitting.{admit_each_at};
+ghost use Rattle.sync_objects.specs.Admitting.{admit_each_at};
 ghost use Rattle.sync_objects.specs.Pairs.{objects_of, cond_wait_at, leave_at};
 ghost use Rattle.sync_objects.specs.Puts.{is_put};
 ghost use Rattle.sync_objects.specs.Acting.{objects_in};
 
 mod acting;
+mod barriers;
+mod conditions;
+mod effect;
+mod mutexes;
+mod queue;
+mod rwlocks;
+mod semaphores;
+mod table;
+mod threads;
 
 pub use acting::ActedOn;
 use acting::is_object;
+use barriers::Barriers;
+use conditions::{Conditions, Leaving};
+pub use effect::Effect;
 use guest_call::{Call, EINVAL, EPERM, Fate, OBJECTS, Thread};
-use object_table::Effect;
+use mutexes::Mutexes;
+pub use queue::Queue;
+use rwlocks::RwLocks;
+use semaphores::Semaphores;
 use std::alloc::{AllocError, Global};
 use std::marker::Model;
-use sync_barrier::Barriers;
-use sync_cond::{Conditions, Leaving};
-use sync_join::Threads;
-use sync_mutex::Mutexes;
-use sync_rw::RwLocks;
-use sync_sem::Semaphores;
+use threads::Threads;
 
 /// The tables of threads and of the objects of each kind. They have up to some KiB each, and are on the heap.
 #[derive(Drop)]

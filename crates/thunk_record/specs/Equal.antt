@@ -3,7 +3,7 @@ use Rattle.std.specs.Prelude.{Bool, ◌==◌}
 use Rattle.std.specs.Cmp.{IsEquivalence, and_equiv, on_equiv, nat_eq_equiv}
 use Rattle.std.specs.Ordering.{eq_of_both, on}
 use Rattle.thunk_spec.specs.Thunk.{Frame}
-use Rattle.page_map.specs.Equal.{is_same_map, is_same_map-equiv}
+use Rattle.page_store.specs.Equal.{is_same_map, is_same_map-equiv}
 
 -- Two frames have the same page map and the same fuel.
 abbrev pub is_same_frame : Frame → Frame → Bool

@@ -2,9 +2,9 @@
 
 ghost use Rattle.std.specs.Prelude.{◌≡◌, ◌+◌};
 
+use rv_isa::Tally;
 use std::marker::Model;
 use std::thread::Threads;
-use turn_count::Tally;
 
 /// How many read pages were compared with those of a view. Only `has_read` raises it, by one, and `merge`, by what
 /// another one counts. Outside of this crate nothing that isn't lent the runtime can make one. A clause sees a number;

@@ -9,9 +9,8 @@ ghost use Rattle.thunk_record.specs.Comparing.{compared_in, compared_for};
 
 use super::compared::Compared;
 use super::kept::Record;
-use page_store::PageTable;
-use rv_alu::Regs;
-use store_mask::ReadPage;
+use page_store::{PageTable, ReadPage};
+use rv_isa::Regs;
 use thunk_spec::ThunkEnd;
 
 /// Whether a view has the bytes of a read page. One past its end it hasn't. Either counts as a page that is compared.

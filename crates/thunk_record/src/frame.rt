@@ -5,7 +5,7 @@ ghost use Rattle.std.specs.Arc.{arc_value};
 ghost use Rattle.std.specs.Cmp.{partial_equiv_from_equiv};
 ghost use Rattle.thunk_record.specs.Equal.{is_same_frame, is_same_frame-equiv};
 
-use page_map::PageMap;
+use page_store::PageMap;
 use rv_code::Code;
 use std::marker::Model;
 use std::sync::Arc;

@@ -2,9 +2,9 @@
 
 ghost use Rattle.std.specs.Prelude.{◌≡◌};
 
-use rv_alu::Regs;
+use page_store::{Delta, Reads};
+use rv_isa::Regs;
 use std::marker::Model;
-use store_mask::{Delta, Reads};
 use thunk_spec::ThunkEnd;
 
 /// What is kept of a finished thunk. A clause sees a `Kept` of `thunk_spec`.

@@ -12,8 +12,8 @@ use Rattle.thunk_spec.specs.declared.ends.Outcome.{Outcome}
 use Rattle.thunk_spec.specs.declared.ends.Outcome.TheVariants as outcome
 use Rattle.thunk_spec.specs.Turn.{Turn, turn, word_turn, with_fetch}
 use Rattle.thunk_spec.specs.Thunk.{Thunk, turns, followed}
-use Rattle.page_map.specs.Entering.{Enters, RunsFrom}
-use Rattle.page_map.proofs.Slots.{slot_of-page}
+use Rattle.page_store.specs.Entering.{Enters, RunsFrom}
+use Rattle.page_store.proofs.Slots.{slot_of-page}
 use Rattle.rv_step.specs.Step.{Makes, Follow}
 use Rattle.rv_step.proofs.Pages.{permission_at-page}
 use Rattle.thunk_run.specs.TurnsOutcome.{TurnsOutcome, left_by, left_after, counted}

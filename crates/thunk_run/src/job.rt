@@ -5,7 +5,7 @@ ghost use Rattle.std.specs.Arc.{arc_value};
 ghost use Rattle.thunk_spec.specs.Record.{IsTrue};
 
 use page_store::PageTable;
-use rv_alu::Regs;
+use rv_isa::Regs;
 use std::sync::Arc;
 use thunk_record::{Frame, Record};
 

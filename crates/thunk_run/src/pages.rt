@@ -2,16 +2,15 @@
 
 ghost use Rattle.std.specs.Prelude.{◌≡◌, ℕ, true, if◌then◌else◌, slice_set, ◌+◌, ◌-◌, ◌/◌, ◌%◌, ◌<◌, ◌≤◌, length, IfOk, IfSome, slice_index_or, Some, None};
 ghost use Rattle.memory_spec.specs.Pages.{page_of};
-ghost use Rattle.page_map.specs.Entering.{RunsFrom};
+ghost use Rattle.page_store.specs.Entering.{RunsFrom};
 ghost use Rattle.thunk_run.specs.TurnsOutcome.{left_after, counted};
 ghost use Rattle.thunk_run.specs.Seeing.{AreSeen};
 
-use page_map::Mem;
-use rv_alu::Regs;
+use page_store::Mem;
 use rv_code::{Code, CodePage};
+use rv_isa::{Regs, Turns};
 use rv_step::{PageEnd, run_page};
 use std::alloc::AllocError;
-use turn_count::Turns;
 
 /// How many turns there must be room for before a page is run from.
 pub(super) const PAGE_TURNS: u32 = 1024;

@@ -9,8 +9,8 @@ ghost use Rattle.guest_call.specs.Objects.{appends};
 
 use guest_call::Call;
 use memory_spec::{MemoryError, Size};
-use page_map::{Mem, PageMap};
-use rv_alu::Regs;
+use page_store::{Mem, PageMap};
+use rv_isa::Regs;
 use std::alloc::AllocError;
 use thunk_spec::ThunkEnd;
 

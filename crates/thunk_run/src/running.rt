@@ -11,11 +11,10 @@ use super::turns::make_thunk;
 use super::watch::{Unwatched, Watch};
 use page_store::PageTable;
 use priv_space::Space;
-use rv_alu::Regs;
+use rv_isa::{Regs, Turns};
 use std::alloc::{AllocError, Global};
 use std::sync::Arc;
 use thunk_record::{Frame, Kept, Record};
-use turn_count::Turns;
 
 impl Job {
     /// The next thunk of a thread that has made `number` steps, with these registers, on this view.

@@ -6,13 +6,12 @@ ghost use Rattle.thunk_run.specs.TurnsOutcome.{TurnsOutcome, left_after, with_pu
 use super::pages::{PAGE_TURNS, Seen, run_pages};
 use super::put::{put_range, take_range};
 use super::watch::{LONG_TURNS, Watch};
-use page_map::Mem;
-use rv_alu::Regs;
+use page_store::Mem;
+use rv_isa::{Regs, Turns};
 use rv_step::step;
 use std::alloc::{AllocError, Global};
 use thunk_record::Frame;
 use thunk_spec::{Outcome, ThunkEnd};
-use turn_count::Turns;
 
 /// How turns ended, and how many they were.
 #[derive(Clone, Copy)]

@@ -8,10 +8,10 @@ use guest_gen::{Generated, inputs_have_one_length, make};
 use machine_spec::{End, Limits};
 use plain_machine::{Outcome, ReplayError, replay};
 use release_core::Setup;
+use rv_isa::Turns;
 use std::alloc::{AllocError, Global};
 use std::test::Fail;
 use std::thread::Threads;
-use turn_count::Turns;
 use worked_guests::guests::CROSS;
 
 /// What a setup comes to under a schedule.

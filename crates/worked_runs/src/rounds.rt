@@ -7,12 +7,12 @@ use propagate::Round;
 use release_core::{History, Setup};
 use round_driver::drive;
 use round_spec::Event;
+use rv_isa::Turns;
 use std::alloc::{AllocError, Global};
 use std::sync::Arc;
 use std::test::Fail;
 use std::thread::Threads;
 use thunk_record::Compared;
-use turn_count::Turns;
 use worked_guests::{Guest, file_of};
 
 /// The setup of a guest and an input, or none where it is too long or isn't taken.

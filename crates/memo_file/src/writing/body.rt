@@ -11,7 +11,7 @@ use super::numbers::put_word;
 use super::pool::Pool;
 use super::record::write_record;
 use crate::opening::{MAGIC, PROFILE, VERSION};
-use page_map::PageMap;
+use page_store::PageMap;
 use release_core::{History, Setup};
 use std::alloc::AllocError;
 

@@ -5,10 +5,10 @@ ghost use Rattle.std.specs.List.{fold};
 ghost use Rattle.memo_spec.specs.Encoding.{IsEncodable, has_page, with_page, index_in};
 ghost use Rattle.memo_file.specs.WritingPool.{pages_lent, bytes_read, places_from, StandsAt, IsIndexed, IsPoolOf};
 
+use page_store::ReadPage;
 use release_core::History;
 use std::alloc::{AllocError, AllocFailed, Global};
 use std::collections::BTreeMap;
-use store_mask::ReadPage;
 
 /// The different pages that were met so far, in the order in which they came, and how each is found again.
 #[derive(Drop)]

@@ -12,10 +12,9 @@ use super::numbers::{put_half, put_word};
 use super::pool::Pool;
 use super::stored::write_stored;
 use isa_spec::Cause;
-use page_map::PageMap;
-use rv_alu::Regs;
+use page_store::{PageDelta, PageMap, ReadPage};
+use rv_isa::Regs;
 use std::alloc::AllocError;
-use store_mask::{PageDelta, ReadPage};
 use thunk_record::Record;
 use thunk_spec::ThunkEnd;
 

@@ -5,9 +5,8 @@ ghost use Rattle.memo_spec.specs.Encoding.{IsEncodable};
 ghost use Rattle.memo_file.specs.WritingMasks.{marks_in};
 ghost use Rattle.memo_file.specs.WritingSizes.{stored_size, record_size, memo_size, HasFewPages};
 
-use page_store::PAGE_SIZE;
+use page_store::{MASK_WORDS, Mask, PAGE_SIZE, PageDelta};
 use release_core::History;
-use store_mask::{MASK_WORDS, Mask, PageDelta};
 use thunk_record::Record;
 
 /// How many places are marked.

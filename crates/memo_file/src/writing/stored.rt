@@ -5,10 +5,8 @@ ghost use Rattle.thunk_spec.specs.Delta.{chosen};
 ghost use Rattle.memo_spec.specs.Encoding.{stored_page as stored_page_bytes, mask as mask_bytes};
 
 use super::numbers::put_word;
-use page_map::PageMap;
-use page_store::PAGE_SIZE;
+use page_store::{MASK_WORDS, Mask, PAGE_SIZE, PageDelta, PageMap};
 use std::alloc::AllocError;
-use store_mask::{MASK_WORDS, Mask, PageDelta};
 
 /// Appends the 512 bytes of a mask.
 fn write_mask(out: &mut Vec<u8>, mask: &Mask) -> Result<(), AllocError>

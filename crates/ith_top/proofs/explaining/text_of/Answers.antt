@@ -6,7 +6,7 @@ use Rattle.round_spec.specs.Alone.{lone_round}
 use Rattle.propagate.specs.Executing.{executed_by}
 use Rattle.rerun_spec.specs.Inputs.{AreShort}
 use Rattle.rerun_spec.specs.Rounds.{with_input}
-use Rattle.why_report.specs.Text.{why_text}
+use Rattle.round_report.specs.WhyText.{why_text}
 use Rattle.ith_top.specs.Contents.{Plan}
 use Rattle.ith_top.specs.Playing.{plan_said}
 use Rattle.ith_top.proofs.Going.{short_first}

@@ -1,7 +1,7 @@
 -- Answers to the goals that the check leaves of `find_races`.
 use Rattle.std.proofs.Common.{◌≡◌, ◌∙◌, inl, inr}
 use Rattle.std.proofs.lemmas.Result.{err_from_is_err_and}
-use Rattle.race_report.specs.Text.{races_listing}
+use Rattle.memo_reports.specs.RacesText.{races_listing}
 use Rattle.ith_top.specs.declared.racing.TheConstants.{MOST_RACES}
 use Rattle.ith_words.specs.Words.{Line, FindsRaces}
 use Rattle.ith_words.specs.Said.{races_said}

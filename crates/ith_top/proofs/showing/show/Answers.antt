@@ -1,7 +1,7 @@
 -- Answers to the goals that the check leaves of `show`.
 use Rattle.std.proofs.Common.{◌≡◌, ◌∙◌, inl, inr}
 use Rattle.std.proofs.lemmas.Result.{err_from_is_err_and}
-use Rattle.memo_listing.specs.Listing.{listing}
+use Rattle.memo_reports.specs.Listing.{listing}
 use Rattle.ith_words.specs.Words.{Line, Shows}
 use Rattle.ith_words.specs.Said.{show_said}
 use Rattle.ith_top.specs.Files.{files_named}

@@ -1,7 +1,7 @@
 -- Answers to the goals that the check leaves of `stored_in`.
 use Rattle.std.proofs.Common.{◌≡◌, false, true, sym, ◌∙◌, arith}
 use Rattle.std.specs.Prelude.{slice_index_or}
-use Rattle.store_mask.specs.declared.stored.StoredPage.{StoredPage}
+use Rattle.page_store.specs.declared.stored.StoredPage.{StoredPage}
 use Rattle.memo_file.proofs.Aging.{stored_at, mask_is}
 use Rattle.memo_file.proofs.age.stored_in.Goals as goal
 

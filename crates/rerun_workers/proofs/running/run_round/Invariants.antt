@@ -1,5 +1,5 @@
 -- The ledger and the names of the board of `run_round`, which nobody watches.
-use Rattle.progress_word.specs.Views.{no_table}
+use Rattle.shared_words.specs.Views.{no_table}
 use Rattle.rerun_workers.proofs.running.run_round.Given as goal
 
 abbrev pub ghosts-run_together-J-Ledger : goal.ghosts-run_together-J-Ledger

@@ -1,5 +1,5 @@
 -- The ledger and the names of the board of `a_job_that_fails_ends_the_round`.
-use Rattle.progress_word.specs.Views.{no_table}
+use Rattle.shared_words.specs.Views.{no_table}
 use Rattle.round_tests.proofs.boards.a_job_that_fails_ends_the_round.Given as goal
 
 abbrev pub ghosts-failed-J-Ledger : goal.ghosts-failed-J-Ledger

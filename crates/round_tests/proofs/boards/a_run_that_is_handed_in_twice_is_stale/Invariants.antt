@@ -1,5 +1,5 @@
 -- The ledger and the names of the board of `a_run_that_is_handed_in_twice_is_stale`.
-use Rattle.progress_word.specs.Views.{no_table}
+use Rattle.shared_words.specs.Views.{no_table}
 use Rattle.round_tests.proofs.boards.a_run_that_is_handed_in_twice_is_stale.Given as goal
 
 abbrev pub ghosts-handed_in_twice-J-Ledger : goal.ghosts-handed_in_twice-J-Ledger

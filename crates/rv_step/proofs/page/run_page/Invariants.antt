@@ -1,7 +1,7 @@
 -- What holds at the loop of `run_page`.
 use Rattle.std.proofs.Common.{◌≡◌, ◌+◌, ◌-◌, ◌≤◌}
 use Rattle.isa_spec.specs.Registers.{register}
-use Rattle.page_map.specs.Entering.{RunsFrom}
+use Rattle.page_store.specs.Entering.{RunsFrom}
 use Rattle.rv_step.specs.Step.{Follow}
 use Rattle.rv_step.specs.Paging.{at_word}
 use Rattle.rv_step.proofs.page.run_page.Given as goal

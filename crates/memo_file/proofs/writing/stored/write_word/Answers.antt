@@ -1,6 +1,6 @@
 -- The byte of the lowest mark, or all bytes of a word.
 use Rattle.std.proofs.Common.{◌≡◌, ℕ, ◌+◌, ◌-◌, ◌*◌, ◌≤◌, ◌++◌, length, take, drop, ap, ◌∙◌, arith, refl}
-use Rattle.store_mask.proofs.Words.{IsLeft, mark_within, marks_behind}
+use Rattle.page_store.proofs.Words.{IsLeft, mark_within, marks_behind}
 use Rattle.memo_file.proofs.WritingMasks.{mark_step, marks_done, word_full}
 use Rattle.memo_file.proofs.writing.stored.write_word.Goals as goal
 

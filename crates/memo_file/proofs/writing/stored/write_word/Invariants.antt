@@ -2,7 +2,7 @@
 use Rattle.std.proofs.Common.{◌≡◌, ◌+◌, ◌-◌, ◌*◌, ◌≤◌, ◌++◌, drop}
 use Rattle.std.specs.Simd.Lanes.{mask_l}
 use Rattle.thunk_spec.specs.Delta.{chosen}
-use Rattle.store_mask.proofs.Words.{marks_left}
+use Rattle.page_store.proofs.Words.{marks_left}
 use Rattle.memo_file.proofs.writing.stored.write_word.Given as goal
 
 abbrev pub invariant-loop-left : goal.invariant-loop-left

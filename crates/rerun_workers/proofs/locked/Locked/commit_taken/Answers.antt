@@ -5,7 +5,7 @@ use Rattle.machine_spec.specs.Setup.{Setup, first}
 use Rattle.rerun_workers.proofs.Under.{watched_on, watched_more}
 use Rattle.rerun_workers.proofs.Following.{IsUnder, follows-commit, follows-give_back, follows-given_up}
 use Rattle.logbook.specs.Pages.{Book}
-use Rattle.tickets.specs.Views.{TicketView}
+use Rattle.shared_words.specs.TicketViews.{TicketView}
 use Rattle.round_spec.specs.Rounds.{RoundState}
 use Rattle.round_spec.specs.Keeping.{IsInOrder}
 use Rattle.rerun_workers.specs.Tickets.{AreIssued, IsNamed, IsRunOfTicket}

@@ -1,7 +1,0 @@
--- What is left to prove of `u16_of`.
-use Rattle.std.proofs.Common.{rules}
-use Rattle.ith_fields.proofs.Encoding.{encoded_two}
-use Rattle.ith_fields.proofs.cursor.u16_of.Goals as goal
-
-pub returns : goal.returns
-returns c = encoded_two c.args.piece.now c.read_u16.result c.requires (search rules) c.read_u16.ensures

@@ -1,7 +1,0 @@
--- What is left to prove of `u32_of`.
-use Rattle.std.proofs.Common.{rules}
-use Rattle.ith_fields.proofs.Encoding.{encoded_four}
-use Rattle.ith_fields.proofs.cursor.u32_of.Goals as goal
-
-pub returns : goal.returns
-returns c = encoded_four c.args.piece.now c.read_u32.result c.requires (search rules) c.read_u32.ensures

@@ -1,7 +1,0 @@
--- What is left to prove of `u64_of`.
-use Rattle.std.proofs.Common.{rules}
-use Rattle.ith_fields.proofs.Encoding.{encoded_eight}
-use Rattle.ith_fields.proofs.cursor.u64_of.Goals as goal
-
-pub returns : goal.returns
-returns c = encoded_eight c.args.piece.now c.read_u64.result c.requires (search rules) c.read_u64.ensures

@@ -1,2 +1,0 @@
--- The files of definitions of this crate.
-pub mod Place

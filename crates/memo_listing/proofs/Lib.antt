@@ -1,3 +1,0 @@
--- The files of lemmas of this crate.
-pub mod Addresses
-pub mod Entries

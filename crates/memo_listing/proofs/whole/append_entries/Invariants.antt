@@ -1,9 +1,0 @@
--- What was there, with all lines, is what is there now, with the lines of the records that are left.
-use Rattle.std.proofs.Common.{◌≡◌, ◌++◌, drop}
-use Rattle.memo_listing.specs.Listing.{entry_lines}
-use Rattle.memo_listing.proofs.whole.append_entries.Given as goal
-
-abbrev pub invariant-loop-place : goal.invariant-loop-place
-invariant-loop-place l =
-    l.fn.into.items ++ entry_lines l.addresses 0 l.records
-    ≡ l.into.items ++ entry_lines l.addresses l.place (drop l.place l.records)

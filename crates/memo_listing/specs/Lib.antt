@@ -1,3 +1,0 @@
--- The files of definitions of this crate.
-pub mod Listing
-pub mod Parts

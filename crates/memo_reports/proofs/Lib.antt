@@ -1,0 +1,19 @@
+-- The files of lemmas of this crate.
+pub mod Adding
+pub mod Addresses
+pub mod Audited
+pub mod Between
+pub mod Bounds
+pub mod Comparing
+pub mod Earlier
+pub mod Entries
+pub mod Facts
+pub mod Filling
+pub mod Filters
+pub mod Finding
+pub mod Following
+pub mod Giving
+pub mod Masking
+pub mod Merging
+pub mod Own
+pub mod Tally

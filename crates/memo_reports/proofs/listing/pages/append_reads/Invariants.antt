@@ -1,0 +1,12 @@
+-- The addresses so far stand, each after a comma, behind what was there.
+use Rattle.std.proofs.Common.{◌≡◌, ◌++◌, take, flat_map}
+use Rattle.std.specs.Prelude.{codes}
+use Rattle.thunk_spec.specs.Reads.{ReadPage}
+use Rattle.memo_reports.specs.Listing.{address_text}
+use Rattle.memo_reports.proofs.listing.pages.append_reads.Given as goal
+
+abbrev pub invariant-loop-page : goal.invariant-loop-page
+invariant-loop-page l =
+    l.into.items
+    ≡ l.initial.into.items
+    ++ flat_map (λ (other : ReadPage). codes "," ++ address_text l.addresses other.slot) (take l.page-index l.others)

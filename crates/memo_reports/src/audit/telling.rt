@@ -1,0 +1,40 @@
+//! The text of an audit.
+
+ghost use Rattle.std.specs.Prelude.{◌≡◌, ◌++◌, IfOk, OnOk, decimal};
+ghost use Rattle.report_spec.specs.Text.{line};
+ghost use Rattle.memo_reports.specs.AuditText.{audit_text};
+
+use super::verdict::Verdict;
+use ith_text::decimal;
+use std::alloc::{AllocError, Global};
+
+/// Appends a line: a name, a space, and a number in decimal. Where memory is wanting, a part of it may stand there.
+fn number_line(alloc: Global, name: &str, number: u64, into: &mut Vec<u8>) -> Result<(), AllocError>
+    ensures { OnOk result (into.new.items ≡ into.old.items ++ line name.now (decimal number)) }
+{
+    into.extend_from_slice(name.as_bytes())?;
+    into.push(b' ')?;
+    decimal(alloc, number, into)?;
+    into.push(b'\n')?;
+    Ok(())
+}
+
+/// The lines of the audit of so many records: how many they are, how many instructions were executed, and `honest`, or
+/// `false` with the place of the first false record.
+///
+/// # Errors
+///
+/// An error where the host's memory ran out.
+pub fn text(alloc: Global, entries: u64, verdict: Verdict) -> Result<Vec<u8>, AllocError>
+    ensures { IfOk result (λ text. text.items
+        ≡ audit_text entries verdict.instructions verdict.first) }
+{
+    let mut text = Vec::new(alloc);
+    number_line(alloc, "audit", entries, &mut text)?;
+    number_line(alloc, "instructions", verdict.instructions, &mut text)?;
+    match verdict.first {
+        None => text.extend_from_slice(b"honest\n")?,
+        Some(place) => number_line(alloc, "false", u64::from(place), &mut text)?,
+    }
+    Ok(text)
+}

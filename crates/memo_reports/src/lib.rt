@@ -1,0 +1,6 @@
+//! What lines print that read a memo: the listing of what it keeps, its audit, and its races.
+#![tactic(auto)]
+
+pub mod audit;
+pub mod listing;
+pub mod races;

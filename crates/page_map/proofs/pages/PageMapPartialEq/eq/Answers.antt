@@ -1,6 +1,0 @@
--- Answers to the goals that the check leaves of `eq`.
-use Rattle.page_map.proofs.Comparing.{maps_decide}
-use Rattle.page_map.proofs.pages.PageMapPartialEq.eq.Goals as goal
-
-pub returns-clause-same : goal.returns-clause-same
-returns-clause-same c = maps_decide c.eq.result c.args.self.now c.args.other.now cc

@@ -1,9 +1,0 @@
--- Answers to the goals that the check leaves of `of`.
-use Rattle.std.proofs.Common.{refl}
-use Rattle.page_map.proofs.Tables.{table-empty}
-use Rattle.page_map.proofs.table.Table.of.Goals as goal
-
-pub loop-slot-init : goal.loop-slot-init
-loop-slot-init c =
-    table-empty c.args.pages.now _ c.in_ok-vec.field-0.items refl
-    (c.in_ok-vec.ensures.items_if_clones_equal (λ _ is. is))

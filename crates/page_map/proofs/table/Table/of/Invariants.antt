@@ -1,6 +1,0 @@
--- A table of these pages.
-use Rattle.page_map.specs.Tables.{IsTable}
-use Rattle.page_map.proofs.table.Table.of.Given as goal
-
-abbrev pub invariant-loop-slot : goal.invariant-loop-slot
-invariant-loop-slot l = IsTable l.pages l.table.starts l.table.places.items l.table.used

@@ -1,9 +1,0 @@
--- Answers to the goals that the check leaves of `start_for`.
-use Rattle.page_map.proofs.Tables.{table-block}
-use Rattle.page_map.proofs.table.Table.start_for.Goals as goal
-
-pub returns-clause-table : goal.returns-clause-table
-returns-clause-table c =
-    let table = c.args.self.now in
-    table-block c.args.pages.now table.starts table.places.items table.used c.args.block c.requires.table c.requires.block
-    c.if-start-ne0.false c.if-self-gt-PLACES.false

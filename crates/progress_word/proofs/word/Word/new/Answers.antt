@@ -1,6 +1,0 @@
--- The word begins at 0, with the view of a writer that has added nothing.
-use Rattle.progress_word.proofs.Steps.{begins}
-use Rattle.progress_word.proofs.word.Word.new.Goals as goal
-
-pub of_words-requires : goal.of_words-requires
-of_words-requires c = begins

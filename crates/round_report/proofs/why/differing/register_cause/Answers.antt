@@ -1,0 +1,12 @@
+-- What is left to prove of `register_cause`.
+use Rattle.std.proofs.Common.{◌≡◌, None, sym, ◌∙◌}
+use Rattle.round_report.specs.Differences.{numbered, first_difference}
+use Rattle.round_report.proofs.Alike.{same-registers}
+use Rattle.round_report.proofs.why.differing.register_cause.Goals as goal
+
+pub returns-in_default-clause-none : goal.returns-in_default-clause-none
+returns-in_default-clause-none c =
+    let none : first_difference (numbered c.args.now.now) (numbered c.args.was.now) ≡ None =
+    rw (← c.to_words-now.ensures, ← c.to_words-was.ensures) (sym c.first_other_word.ensures.first ∙ c.in_default.is) in
+    same-registers c.args.now.now c.args.was.now c.as_array-now.ensures.count c.as_array-was.ensures.count
+    c.as_array-now.ensures.zero c.as_array-was.ensures.zero none

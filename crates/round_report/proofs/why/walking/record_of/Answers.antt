@@ -1,0 +1,14 @@
+-- What is left to prove of `record_of`.
+use Rattle.std.proofs.Common.{ap, sym, ◌∙◌, option_map}
+use Rattle.std.specs.Arc.{arc_value}
+use Rattle.round_report.proofs.Finding.{if_some, past-mapped}
+use Rattle.round_report.proofs.why.walking.record_of.Goals as goal
+
+pub returns-clause-mapped : goal.returns-clause-mapped
+returns-clause-mapped c =
+    if_some _ c.old_record.result
+    (λ r is old.
+    past-mapped c.args.round.now.past c.args.round.now.setup c.args.thread c.args.number
+    (arc_value r.now) c.old_record.ensures.mapped
+    (sym c.old_record.ensures.record ∙ ap (option_map (λ s. arc_value s.now)) is)
+    old)

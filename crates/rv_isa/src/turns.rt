@@ -1,0 +1,87 @@
+//! Counters that take no bytes: contracts read them, and a program can't.
+
+ghost use Rattle.std.specs.Prelude.{◌≡◌, ◌+◌, ℕ};
+ghost use Rattle.std.specs.Borrow.{ftrue};
+
+use std::marker::{Model, PhantomData};
+use std::thread::Threads;
+
+/// A number of no bytes, which clauses alone read.
+#[derive(Drop)]
+pub struct Tally {
+    marker: PhantomData<u8>,
+    pub ghost number: { ℕ },
+}
+
+impl Model for Tally {
+    ghost also_owns = { λ _. ftrue };
+}
+
+// It owns nothing.
+unsafe impl Send for Tally {}
+
+impl Tally {
+    /// The number 0.
+    pub fn none() -> Self
+        ensures { result.number ≡ 0 }
+    {
+        Tally {
+            marker: PhantomData,
+        }
+    }
+
+    /// So many more.
+    #[inline(always)]
+    pub fn raise(&mut self, _by: u32)
+        ensures { self.new.number ≡ self.old.number + _by }
+    {}
+
+    /// As many more as the other has.
+    #[inline(always)]
+    pub fn merge(&mut self, _other: &Tally)
+        ensures { self.new.number ≡ self.old.number + _other.now.number }
+    {}
+}
+
+/// How many turns were executed. Who executes a turn raises it, and nothing that isn't lent the
+/// runtime can make one: so a call that is only lent a counter tells by it all turns that it executed.
+/// A clause sees a number; at run time it takes no bytes, and a program can't read it.
+#[derive(Drop)]
+pub struct Turns {
+    tally: Tally,
+}
+
+impl Model for Turns {
+    ghost use Rattle.std.specs.Prelude.{ℕ};
+
+    ghost Value = { ℕ };
+
+    ghost view = { λ t. t.tally.number };
+}
+
+impl Turns {
+    /// A counter that nothing has raised. It is made by who is lent the runtime: only the runtime has
+    /// `Threads`, since an `impl` of it needs a parameter with that bound.
+    pub fn new<R: Threads>(_rt: &R) -> Turns
+        ensures { result ≡ 0 }
+    {
+        Turns {
+            tally: Tally::none(),
+        }
+    }
+
+    /// So many turns are executed.
+    #[inline(always)]
+    pub fn count(&mut self, turns: u32)
+        ensures { self.new ≡ self.old + turns }
+    {
+        self.tally.raise(turns);
+    }
+
+    /// The turns of another counter are counted too.
+    pub fn merge(&mut self, other: Turns)
+        ensures { self.new ≡ self.old + other }
+    {
+        self.tally.merge(&other.tally);
+    }
+}

@@ -1,0 +1,12 @@
+-- To load keeps the rule of the word, and tells what it is.
+use Rattle.std.proofs.Common.{rules}
+use mathlib.Core.Option.{none}
+use Rattle.atomic_table.specs.Table.{step}
+use Rattle.shared_words.proofs.Steps.{loads}
+use Rattle.shared_words.proofs.word.Word.load.Goals as goal
+
+pub load-requires : goal.load-requires
+load-requires c =
+    let table = c.self.inside.table.shared.table_id in
+    let seat = c.reader.inside.seat in
+    (search rules, search rules, loads table.slots seat.id seat.me (step table.slots 0 0 0 none))

@@ -1,0 +1,60 @@
+//! What a seat at the word's table knows, the rule of the table, and what its steps tell.
+
+use atomic_table::{Join, Play, Split, TableRule};
+
+/// What a seat knows: whether it is the writer's, how many steps it added, what it last saw the word to be or was told
+/// that it is, and how often it loaded the word. No value of it is made.
+pub struct View {
+    pub writer: bool,
+    pub added: u64,
+    pub seen: u64,
+    pub loads: u64,
+}
+
+/// The rule of the word: it is what its one writer has added, and no seat has seen more.
+pub struct Counts;
+
+impl TableRule<(), View, ()> for Counts {
+    ghost use Rattle.shared_words.specs.Counting.{IsCounted, starter};
+
+    ghost holds = { λ _. IsCounted };
+
+    ghost first = { λ _. starter };
+}
+
+/// The writer adds one.
+pub(super) struct Adding;
+
+impl Play<(), View> for Adding {
+    ghost use Rattle.shared_words.specs.Counting.{Adds};
+
+    ghost then = { Adds };
+}
+
+/// A seat loads the word.
+pub(super) struct Loading;
+
+impl Play<(), View> for Loading {
+    ghost use Rattle.shared_words.specs.Counting.{Loads};
+
+    ghost then = { Loads };
+}
+
+/// A new reader is told what the writer has seen, and the writer is told what a reader has seen.
+pub(super) struct Telling;
+
+impl Split<View> for Telling {
+    ghost use Rattle.shared_words.specs.Counting.{told};
+
+    ghost left = { λ v. v };
+
+    ghost right = { told };
+}
+
+impl Join<View> for Telling {
+    ghost use Rattle.shared_words.specs.Counting.{joined, spent};
+
+    ghost both = { joined };
+
+    ghost spent = { spent };
+}

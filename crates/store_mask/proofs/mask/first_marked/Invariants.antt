@@ -1,6 +1,0 @@
--- The words so far are zero.
-use Rattle.std.proofs.Common.{◌≡◌, ◌<◌, ℕ, slice_index}
-use Rattle.store_mask.proofs.mask.first_marked.Given as goal
-
-abbrev pub invariant-loop-k : goal.invariant-loop-k
-invariant-loop-k l = (j : ℕ) → j < l.k → slice_index l.words j ≡ 0

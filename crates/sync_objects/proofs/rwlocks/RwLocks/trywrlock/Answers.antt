@@ -1,0 +1,18 @@
+-- The row at the lock, and the table after it.
+use Rattle.std.proofs.Common.{rules, arith}
+use Rattle.guest_call.specs.RwLocks.{unheld, rwlock_queue, trywrlock_row}
+use Rattle.guest_call.proofs.Rows.{trywrlock_fair}
+use Rattle.sync_objects.proofs.TableKept.{still_kept}
+use Rattle.sync_objects.proofs.rwlocks.RwLocks.trywrlock.Goals as goal
+
+pub returns : goal.returns
+returns c =
+    rw (← c.self.view_is) (c.at_cell.ensures unheld (trywrlock_row c.args.t)
+    (λ x y e k. search (rules, k.met, k.shows, k.leaves)))
+
+pub invariant_of-self : goal.invariant_of-self
+invariant_of-self c =
+    still_kept rwlock_queue unheld (trywrlock_row c.args.t) c.self.inside.cells c.at_cell.new.cells c.at_cell.result
+    c.args.r c.args.t (trywrlock_fair c.args.t)
+    (λ x. grind arith) (c.at_cell.ensures unheld (trywrlock_row c.args.t)
+    (λ x y e k. search (rules, k.met, k.shows, k.leaves))) c.self.invariant

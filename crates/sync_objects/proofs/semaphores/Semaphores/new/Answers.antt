@@ -1,0 +1,16 @@
+-- Each object is as it is at the start.
+use Rattle.std.proofs.Common.{rules, refl, subst, sym}
+use Rattle.guest_call.specs.Tables.{IsTable}
+use Rattle.guest_call.specs.Semaphores.{unposted, semaphore_queue}
+use Rattle.guest_call.specs.Objects.{all_unposted}
+use Rattle.sync_objects.proofs.TableKept.{replicate_table}
+use Rattle.sync_objects.proofs.semaphores.Semaphores.new.Goals as goal
+
+pub returns : goal.returns
+unfolding all_unposted
+returns c = c.all_of.ensures unposted (λ f x k. search (rules, k))
+
+pub invariant_of-result : goal.invariant_of-result
+invariant_of-result c =
+    subst (IsTable semaphore_queue) (sym (c.all_of.ensures unposted (λ f x k. search (rules, k))))
+    (replicate_table semaphore_queue unposted refl)

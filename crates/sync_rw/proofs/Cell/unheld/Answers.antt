@@ -1,8 +1,0 @@
--- No thread is a reader.
-use Rattle.std.proofs.Common.{rules}
-use Rattle.guest_call.specs.RwLocks.{no_readers}
-use Rattle.sync_rw.proofs.Cell.unheld.Goals as goal
-
-pub returns : goal.returns
-unfolding no_readers
-returns c = search rules
