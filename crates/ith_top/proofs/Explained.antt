@@ -10,7 +10,6 @@ use Rattle.rerun_spec.specs.Rounds.{nothing_asked, Beginning, limits_of, after_m
 use Rattle.rerun_workers.proofs.Made.{alone-setup, alone-past}
 use Rattle.round_report.specs.declared.why.reason.Reason.{Reason}
 use Rattle.round_report.specs.Reasons.{reasons_of, reasons_by, scratch_before, executed_places, GoesByOldRun}
-use Rattle.round_report.specs.WhyText.{why_text}
 use Rattle.propagate.specs.Executing.{executed_by}
 use Rattle.ith_host.specs.World.{World, AsksNothing}
 use Rattle.ith_words.specs.Words.{Text, Reruns, Explains, ExplainLine}
@@ -19,11 +18,11 @@ use Rattle.ith_top.specs.declared.status.Status.TheVariants as status
 use Rattle.ith_top.specs.Files.{files_named}
 use Rattle.ith_top.specs.Contents.{Plan, AreLists, IsPlan, as_rerun}
 use Rattle.ith_top.specs.Rounds.{BeginsHonestly}
-use Rattle.ith_top.specs.Explaining.{explained_round}
+use Rattle.ith_top.specs.Explaining.{explained_round, why_of}
 use Rattle.ith_top.specs.Ends.{Prints, HasReasons, text_of_reasons, IsExplained, EndsEarly, ExplainEnds, Ends}
 use Rattle.ith_top.specs.Counting.{ExplainSpends}
 use Rattle.ith_top.specs.Refusals.{WhyUnprinted}
-use Rattle.ith_top.specs.Playing.{plan_said, IsPrepared, TellsReasons}
+use Rattle.ith_top.specs.Playing.{plan_said, IsPrepared, IsWithNext, IsFirstRound, GivesReasons, TellsReasons}
 use Rattle.ith_top.specs.declared.plan.Plan.{Plan as Planned}
 use Rattle.std.specs.Prelude.{Result, Ok, Err, IfOk}
 use Rattle.ith_top.proofs.Worlds.{stays_same}
@@ -51,36 +50,54 @@ explain_prepared line a b (Ok p) ready =
     record { is = ready.is; playable = ready.playable; encoded = ready.encoded; reads = ready.reads }
 explain_prepared line a b (Err s) ready = ready
 
+-- a round on the next input is the first of its plan
+pub first_made :
+    (p : Plan) (later : List (List ℕ)) (s : Setup) (w : RoundState)
+    → IsWithNext p.beginning.setup p.inputs later s → w ≡ lone_round s p.beginning.past → IsFirstRound p w
+first_made p later s w on made =
+    record {
+      input = on.input;
+      later = later;
+      first = on.taken;
+      is = made ∙ ap (λ (t : Setup). lone_round t p.beginning.past) on.is;
+    }
+
 -- the reasons of a round that one worker made are those of the round that is explained
 pub reasons_told :
-    (p : Plan) (input : List ℕ) (later : List (List ℕ)) (s : Setup) (w : RoundState) (rs : List Reason) (text : List ℕ)
-    → p.inputs ≡ input ∷ later → s ≡ with_input p.beginning.setup input → w ≡ lone_round s p.beginning.past
-    → rs ≡ reasons_of w
-    → (GoesByOldRun w.past w.setup → map (λ (r : Reason). r.step) rs ≡ executed_places w.schedule)
-    → (IsSound w.past w.setup → rs ≡ reasons_by (scratch_before w) w) → text ≡ why_text rs → TellsReasons p text
-reasons_told p input later s w rs text first is made are each scratch tells =
-    let whole : RoundState = explained_round p.beginning input in
-    let one : w ≡ whole = made ∙ ap (λ (t : Setup). lone_round t p.beginning.past) is in
-    let same : rs ≡ reasons_of whole = are ∙ ap reasons_of one in
-    let setup : w.setup ≡ with_input p.beginning.setup input = alone-setup s p.beginning.past w made ∙ is in
-    let past : w.past ≡ p.beginning.past = alone-past s p.beginning.past w made in
+    (p : Plan) (w : RoundState) (text : List ℕ) → IsFirstRound p w → GivesReasons w text → TellsReasons p text
+reasons_told p w text one gives =
+    let s : Setup = with_input p.beginning.setup one.input in
+    let setup : w.setup ≡ s = alone-setup s p.beginning.past w one.is in
+    let past : w.past ≡ p.beginning.past = alone-past s p.beginning.past w one.is in
+    let same : reasons_of w ≡ reasons_of (explained_round p.beginning one.input) = ap reasons_of one.is in
     record {
-      input = input;
-      later = later;
-      first = first;
-      is_text = tells ∙ ap why_text same;
+      input = one.input;
+      later = one.later;
+      first = one.first;
+      is_text = gives.is_text ∙ ap why_of one.is;
       each = λ goes.
           let at : GoesByOldRun w.past w.setup =
           subst (λ (t : Setup). GoesByOldRun w.past t) (sym setup)
-          (subst (λ (o : Option History). GoesByOldRun o (with_input p.beginning.setup input)) (sym past) goes) in
-          ap (map (λ (r : Reason). r.step)) (sym same) ∙ each at
-          ∙ ap (λ (x : RoundState). executed_places x.schedule) one;
+          (subst (λ (o : Option History). GoesByOldRun o s) (sym past) goes) in
+          ap (map (λ (r : Reason). r.step)) (sym same) ∙ gives.each at
+          ∙ ap (λ (x : RoundState). executed_places x.schedule) one.is;
       scratch = λ sound.
           let at : IsSound w.past w.setup =
           subst (λ (t : Setup). IsSound w.past t) (sym setup)
-          (subst (λ (o : Option History). IsSound o (with_input p.beginning.setup input)) (sym past) sound) in
-          sym same ∙ scratch at ∙ ap (λ (x : RoundState). reasons_by (scratch_before x) x) one;
+          (subst (λ (o : Option History). IsSound o s) (sym past) sound) in
+          sym same ∙ gives.scratch at ∙ ap (λ (x : RoundState). reasons_by (scratch_before x) x) one.is;
     }
+
+-- and what it cost is what the first round costs
+pub first_cost :
+    (p : Plan) (w : RoundState) (before after : ℕ) (input : List ℕ) (later : List (List ℕ))
+    → IsFirstRound p w → after ≡ before + executed_by w → p.inputs ≡ input ∷ later
+    → after ≡ before + executed_by (explained_round p.beginning input)
+first_cost p w before after input later one cost are =
+    let both : one.input ∷ one.later ≡ input ∷ later = sym one.first ∙ are in
+    let same : one.input ≡ input = cc in
+    cost
+    ∙ ap (λ (x : RoundState). before + executed_by x) (one.is ∙ ap (explained_round p.beginning) same)
 
 -- one list makes one input
 one_input :

@@ -163,7 +163,3 @@ left_map workers way b input t u text exit next on =
     let r = round_on b input on.found in
     subst (λ (n : Beginning). IsOfMap n.past n.setup) (sym on.is_next)
     (same_image (left_by r).setup b.setup (ap image_pages (ap (λ (s : Setup). s.elf) (left-own r))))
-
--- what is there is one thing
-pub some_is : {A : Type 0} (x y : A) → Some x ≡ Some y → x ≡ y
-some_is x y e = cc

@@ -4,6 +4,7 @@ use Rattle.std.specs.Arc.{arc_value}
 use Rattle.std.specs.List.{concat}
 use Rattle.machine_spec.specs.Setup.{Setup, IsSetup}
 use Rattle.history_spec.specs.History.{History, IsSound}
+use Rattle.round_spec.specs.Rounds.{RoundState}
 use Rattle.round_report.specs.declared.why.reason.Reason.{Reason}
 use Rattle.round_report.specs.Reasons.{reasons_of, reasons_by, scratch_before, executed_places, GoesByOldRun}
 use Rattle.memo_spec.specs.Encoding.{AreBytes, memo}
@@ -11,14 +12,16 @@ use Rattle.rerun_spec.specs.Encoded.{IsEncodedPast}
 use Rattle.propagate.specs.Consistency.{IsOfMap}
 use Rattle.report_spec.specs.declared.Entry.{Entry}
 use Rattle.report_spec.specs.Report.{ReportData, no_extras, report_text}
+use Rattle.rerun_spec.specs.declared.Asked.{Asked}
 use Rattle.rerun_spec.specs.Inputs.{AreShort}
 use Rattle.rerun_spec.specs.Rounds.{Found, Round, Beginning, IsMade, IsWatched, round_on, after_round, with_input}
-use Rattle.rerun_spec.specs.Reports.{made_report, made_exits, all_exit, all_made_exit, all_executed}
+use Rattle.rerun_spec.specs.Reports.{data_as_made, extras_of, made_report, made_exits, all_exit, all_made_exit, all_executed}
 use Rattle.plain_machine.specs.declared.replaying.Outcome.{Outcome}
 use Rattle.round_report.specs.Replay.{replay_text}
 use Rattle.round_report.specs.Short.{short_text, made_short}
 use Rattle.ith_host.specs.World.{World}
 use Rattle.ith_words.specs.Words.{Text, Line, Replays, ReplayLine}
+use Rattle.ith_top.specs.declared.crew.MadeRound.{MadeRound}
 use Rattle.ith_top.specs.declared.plan.Plan.{Plan as Planned}
 use Rattle.ith_top.specs.declared.plan.Beginning.{Beginning as Begun}
 use Rattle.ith_top.specs.declared.report.Telling.{Telling}
@@ -60,6 +63,11 @@ pub record IsPrepared (line : Line) (before after : World) (p : Plan) : Type 0 w
   pub playable : CanBePlayed p
   pub encoded : CanBeEncoded p
   pub reads : Reads (files_named line) before after
+
+-- What there is to tell of a round that workers made, with the lines that are asked for.
+abbrev pub data_of_made : Asked → MadeRound → ReportData
+data_of_made asked r =
+    data_as_made r.round (extras_of asked r.round.past r.round.setup r.progress.items) r.worker_steps.items
 
 -- The text that tells of a round in this way, what is told of it.
 abbrev pub text_by : Telling → ℕ → ReportData → List ℕ
@@ -148,6 +156,28 @@ data_of_outcome entries o =
 -- The text that tells of what a schedule came to.
 abbrev pub TellsOfReplay : List ℕ → Outcome → List ℕ → Type 0
 TellsOfReplay threads o text = text ≡ replay_text (data_of_outcome (all_executed threads) o)
+
+-- A setup is this one with the next of some inputs, which is taken out.
+pub record IsWithNext (s : Setup) (before after : List (List ℕ)) (next : Setup) : Type 0 where
+  pub input : List ℕ
+  pub taken : before ≡ input ∷ after
+  pub is : next ≡ with_input s input
+
+-- This is the first round of a plan, as one worker makes it.
+pub record IsFirstRound (p : Plan) (w : RoundState) : Type 0 where
+  pub input : List ℕ
+  pub later : List (List ℕ)
+  pub first : p.inputs ≡ input ∷ later
+  pub is : w ≡ explained_round p.beginning input
+
+-- A text tells why the executed steps of a round were executed: each of them has a reason, and no other step has, if the
+-- round goes by a run that holds together; and if it goes by a sound history, the reasons are told by the machine from
+-- scratch.
+pub record GivesReasons (w : RoundState) (text : List ℕ) : Type 0 where
+  pub is_text : text ≡ why_of w
+  pub each :
+      GoesByOldRun w.past w.setup → map (λ (r : Reason). r.step) (reasons_of w) ≡ executed_places w.schedule
+  pub scratch : IsSound w.past w.setup → reasons_of w ≡ reasons_by (scratch_before w) w
 
 -- A text tells why the executed steps were executed of the one round of a plan, as one worker makes it: each of them
 -- has a reason, and no other step has, where the round goes by a run that holds together; and where it goes by a sound

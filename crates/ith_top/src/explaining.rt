@@ -1,7 +1,8 @@
 //! What the program does of a line that tells why steps were executed.
 
-ghost use Rattle.std.specs.Prelude.{◌≡◌, ◌+◌, ◌∷◌, ℕ, List, IfOk, IfErr, Some};
+ghost use Rattle.std.specs.Prelude.{◌≡◌, ◌+◌, ◌<◌, ◌∷◌, ℕ, List, length, IfOk, IfErr, Some};
 ghost use Rattle.propagate.specs.Executing.{executed_by};
+ghost use Rattle.rerun_spec.specs.Inputs.{AreShort};
 ghost use Rattle.ith_words.specs.Words.{Explains};
 ghost use Rattle.ith_words.specs.Said.{rerun_said, explain_said};
 ghost use Rattle.ith_top.specs.Statuses.{status_in};
@@ -9,14 +10,16 @@ ghost use Rattle.ith_top.specs.Contents.{as_rerun};
 ghost use Rattle.ith_top.specs.Explaining.{explained_round};
 ghost use Rattle.ith_top.specs.Ends.{Ends, EndsEarly};
 ghost use Rattle.ith_top.specs.Counting.{ExplainSpends};
-ghost use Rattle.ith_top.specs.Playing.{plan_said, CanBePlayed, IsPrepared, TellsReasons};
+ghost use Rattle.ith_top.specs.Playing.{plan_said, CanBePlayed, IsPrepared, IsWithNext, IsFirstRound, GivesReasons, TellsReasons};
 
 use super::outside::print_text;
-use super::plan::{Beginning, Plan, prepare_rerun};
+use super::plan::{Beginning, Plan, prepare_rerun, take_input};
 use super::status::Status;
+use edit_list::Inputs;
 use ith_host::Host;
 use ith_words::{ExplainLine, RerunLine};
-use propagate::run_alone;
+use propagate::{Round, run_alone};
+use release_core::Setup;
 use round_report::why::{reasons, text};
 use rv_isa::Turns;
 use std::alloc::{AllocError, Global};
@@ -51,6 +54,43 @@ fn prepare<H: Host>(alloc: Global, host: &mut H, line: &ExplainLine<'_>) -> Resu
     prepare_rerun(alloc, host, &rerun)
 }
 
+/// A setup with the next input, which is taken out.
+fn with_next(setup: &Setup, inputs: &mut Inputs) -> Result<Setup, AllocError>
+    requires some { 0 < length inputs.old }
+    requires short { AreShort inputs.old }
+    ensures { IfOk result (λ next. IsWithNext setup.now inputs.old inputs.new next) }
+{
+    let input = take_input(inputs)?;
+    setup.with_input(input)
+}
+
+/// The first round of a plan, as one worker makes it.
+fn first_round(
+    alloc: Global,
+    plan: Plan,
+    turns: &mut Turns,
+    compared: &mut Compared,
+) -> Result<Round, AllocError>
+    requires { CanBePlayed (plan_said plan) }
+    ensures round { IfOk result (λ round. IsFirstRound (plan_said plan) round) }
+    ensures cost { IfOk result (λ round. turns.new ≡ turns.old + executed_by round) }
+{
+    let Plan {
+        beginning: Beginning { past, setup, .. },
+        mut inputs,
+    } = plan;
+    let edited = with_next(&setup, &mut inputs)?;
+    run_alone(alloc, edited, past, turns, compared)
+}
+
+/// The text that tells why the executed steps of a round were executed.
+fn reasons_text(alloc: Global, round: &Round) -> Result<Vec<u8>, AllocError>
+    ensures { IfOk result (λ text. GivesReasons round.now text.items) }
+{
+    let reasons = reasons(alloc, round)?;
+    text(alloc, reasons.as_slice())
+}
+
 /// The text that tells why the executed steps of a plan's round were executed.
 fn text_of(
     alloc: Global,
@@ -64,18 +104,8 @@ fn text_of(
         (plan_said plan).inputs ≡ input ∷ later
         → turns.new ≡ turns.old + executed_by (explained_round (plan_said plan).beginning input)) }
 {
-    let Plan {
-        beginning: Beginning { past, setup, .. },
-        mut inputs,
-    } = plan;
-    let Some(input) = inputs.take_next()? else {
-        unreachable!()
-    };
-    let edited = setup.with_input(input)?;
-    let round = run_alone(alloc, edited, past, turns, compared)?;
-    let reasons = reasons(alloc, &round)?;
-    let told = text(alloc, reasons.as_slice())?;
-    Ok(told)
+    let round = first_round(alloc, plan, turns, compared)?;
+    reasons_text(alloc, &round)
 }
 
 /// All that a line asks for that tells why steps were executed. Every turn that it executes is counted.

@@ -17,7 +17,7 @@ ghost use Rattle.ith_top.specs.Playing.{plan_said, CanBePlayed, CanBeEncoded, Ar
 
 use super::crew::Crew;
 use super::outside::print_text;
-use super::plan::{Plan, from_scratch};
+use super::plan::{Plan, from_scratch, take_input};
 use super::report::{Telling, make_round};
 use super::status::Status;
 use edit_list::{InputsError, inputs_of};
@@ -113,12 +113,8 @@ fn make_both<R: Threads + Wait + Sync, G: Gate + Sync>(
         beginning,
         mut inputs,
     } = prepare(alloc, number)?;
-    let Some(input) = inputs.take_next()? else {
-        unreachable!()
-    };
-    let Some(edited) = inputs.take_next()? else {
-        unreachable!()
-    };
+    let input = take_input(&mut inputs)?;
+    let edited = take_input(&mut inputs)?;
     let mut last = None;
     let first = make_round(alloc, beginning, input, crew, Telling::Line, &mut last)?;
     let second = make_round(alloc, first.next, edited, crew, Telling::Line, &mut last)?;

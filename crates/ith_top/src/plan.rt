@@ -1,7 +1,7 @@
 //! What rounds a line asks for: its files are read, then the executable or the memo is looked at, and then the edit
 //! lists are.
 
-ghost use Rattle.std.specs.Prelude.{◌≡◌, ◌≤◌, [], ◌∷◌, length, IfOk, IfErr};
+ghost use Rattle.std.specs.Prelude.{◌≡◌, ◌<◌, ◌≤◌, [], ◌∷◌, length, IfOk, IfErr};
 ghost use Rattle.machine_spec.specs.Limits.{AreLimits};
 ghost use Rattle.machine_spec.specs.Setup.{IsSetup};
 ghost use Rattle.memo_spec.specs.Encoding.{AreBytes};
@@ -51,6 +51,17 @@ pub struct Plan {
     pub beginning: Beginning,
     /// Their inputs, in order, each made when the one before it is taken out.
     pub inputs: Inputs,
+}
+
+/// The next of some inputs, which is taken out. There is one.
+pub fn take_input(inputs: &mut Inputs) -> Result<Vec<u8>, AllocError>
+    requires { 0 < length inputs.old }
+    ensures { IfOk result (λ input. inputs.old ≡ input.items ∷ inputs.new) }
+{
+    let Some(input) = inputs.take_next()? else {
+        unreachable!()
+    };
+    Ok(input)
 }
 
 /// Makes a setup of what was read, with the limits of a line.

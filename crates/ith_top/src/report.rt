@@ -3,15 +3,17 @@
 ghost use Rattle.std.specs.Prelude.{◌≡◌, ◌+◌, ◌^◌, ◌<◌, ◌≤◌, length, option_map, IfOk};
 ghost use Rattle.std.specs.Arc.{arc_value};
 ghost use Rattle.machine_spec.specs.declared.TheConstants.{MOST_INPUT_BYTES};
+ghost use Rattle.round_spec.specs.Rounds.{history_of};
 ghost use Rattle.propagate.specs.Consistency.{IsOfMap};
 ghost use Rattle.rerun_spec.specs.Reports as reports;
-ghost use Rattle.ith_top.specs.Playing.{beginning_said, text_by, IsMadeOn};
+ghost use Rattle.ith_top.specs.Playing.{beginning_said, data_of_made, text_by, IsMadeOn};
 
 use super::crew::{Crew, MadeRound};
 use super::plan::Beginning;
 use ith_host::Gate;
 use machine_spec::End;
 use propagate::Round;
+use release_core::History;
 use rerun_spec::Asked;
 use round_report::{Digested, ReportData, short, text};
 use std::alloc::{AllocError, Global};
@@ -29,18 +31,18 @@ pub struct ReportedRound {
     pub next: Beginning,
 }
 
-/// What there is to tell of a round, with the lines that are asked for, and with how many steps each worker made.
-fn data_of<'a>(
-    round: &'a Round,
-    asked: Asked,
-    worker_steps: &'a [u64],
-    progress: &'a [u64],
-) -> Result<ReportData<'a>, AllocError>
-    ensures { IfOk result (λ told. told ≡ reports.data_as_made round.now
-        (reports.extras_of asked round.now.past round.now.setup progress.now) worker_steps.now) }
+/// What there is to tell of a round that was made, with the lines that are asked for.
+fn data_of<'a>(made: &'a MadeRound, asked: Asked) -> Result<ReportData<'a>, AllocError>
+    ensures { IfOk result (λ told. told ≡ data_of_made asked made.now) }
 {
+    let round = &made.round;
     let reached = if asked.reach {
         Some(round.reached()?)
+    } else {
+        None
+    };
+    let progress = if asked.progress {
+        Some(made.progress.as_slice())
     } else {
         None
     };
@@ -48,9 +50,9 @@ fn data_of<'a>(
         ending: round.end(),
         schedule: round.schedule(),
         reached,
-        progress: if asked.progress { Some(progress) } else { None },
+        progress,
         instructions: round.instructions(),
-        worker_steps,
+        worker_steps: made.worker_steps.as_slice(),
         memory: round.memory(),
         output: round.output(),
     })
@@ -65,20 +67,36 @@ pub enum Telling {
     Line,
 }
 
-/// The text that tells of a round. The digest of the last memory that was told is taken if memory is the same.
+/// The text that tells of a round that was made. The digest of the last memory that was told is taken if memory is the
+/// same.
 fn text_of(
     alloc: Global,
     number: usize,
-    told: &ReportData<'_>,
+    asked: Asked,
+    made: &MadeRound,
     telling: Telling,
     last: &mut Option<Digested>,
 ) -> Result<Vec<u8>, AllocError>
-    ensures { IfOk result (λ text. text.items ≡ text_by telling number told.now) }
+    ensures { IfOk result (λ text.
+        text.items ≡ text_by telling number (data_of_made asked made.now)) }
 {
+    let told = data_of(made, asked)?;
     match telling {
-        Telling::Report => text(alloc, number as u64, told, last),
-        Telling::Line => short(alloc, number as u64, told),
+        Telling::Report => text(alloc, number as u64, &told, last),
+        Telling::Line => short(alloc, number as u64, &told),
     }
+}
+
+/// What a round leaves to the next one.
+fn left_by(alloc: Global, round: Round) -> Result<Arc<History>, AllocError>
+    requires { IsOfMap round.past round.setup }
+    ensures { IfOk result (λ left. arc_value left ≡ history_of round) }
+{
+    let Some(history) = round.into_history() else {
+        unreachable!()
+    };
+    let left = Arc::new(alloc, history)?;
+    Ok(left)
 }
 
 /// Whether an end is an exit.
@@ -118,18 +136,10 @@ pub fn make_round<R: Threads + Wait + Sync, G: Gate + Sync>(
         asked,
     } = beginning;
     let start = setup.with_input(input)?;
-    let MadeRound {
-        round,
-        worker_steps,
-        progress,
-    } = crew.make(alloc, number as u64, start, past, asked.progress)?;
-    let told = data_of(&round, asked, worker_steps.as_slice(), progress.as_slice())?;
-    let text = text_of(alloc, number, &told, telling, last)?;
-    let exited = is_exit(round.end());
-    let Some(left) = round.into_history() else {
-        unreachable!()
-    };
-    let left = Arc::new(alloc, left)?;
+    let made = crew.make(alloc, number as u64, start, past, asked.progress)?;
+    let text = text_of(alloc, number, asked, &made, telling, last)?;
+    let exited = is_exit(made.round.end());
+    let left = left_by(alloc, made.round)?;
     let next = Beginning {
         number: number + 1,
         past: Some(left),

@@ -8,7 +8,7 @@ ghost use Rattle.ith_top.specs.Playing.{plan_said, CanBePlayed, IsPlayed};
 
 use super::crew::Crew;
 use super::outside::print_text;
-use super::plan::{Beginning, Plan};
+use super::plan::{Beginning, Plan, take_input};
 use super::report::{ReportedRound, Telling, make_round};
 use super::status::Status;
 use ith_host::{Gate, Host};
@@ -50,9 +50,7 @@ pub fn make_rounds<R: Threads + Wait + Sync, H: Host, G: Gate + Sync>(
     let mut last = None;
     let mut exits = true;
     for place in 0..inputs.len() {
-        let Some(input) = inputs.take_next()? else {
-            unreachable!()
-        };
+        let input = take_input(&mut inputs)?;
         let ReportedRound { text, exited, next } = make_round(
             alloc,
             beginning,

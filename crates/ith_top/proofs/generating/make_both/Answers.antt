@@ -14,26 +14,26 @@ use Rattle.ith_top.proofs.generating.make_both.Goals.{then-first, else-first}
 pub make_round-requires-2-clause-short : goal.make_round-requires-2-clause-short
 make_round-requires-2-clause-short g c = λ lifetimes bounds.
     let p : Plan = plan_said c.in_ok-beginning.field-0 in
-    let first : p.inputs ≡ c.in-Some.input.items ∷ c.take_next.new.self = rw c.in-Some.is at c.in_ok-input.ensures.taken in
-    let second : c.take_next.new.self ≡ c.in-Some-2.edited.items ∷ c.take_next-2.new.self =
-    rw c.in-Some-2.is at c.in_ok-edited.ensures.taken in
-    short_first c.in-Some-2.edited.items c.take_next-2.new.self
-    (subst AreShort second (short_rest c.in-Some.input.items c.take_next.new.self
+    let first : p.inputs ≡ c.in_ok-input.input.items ∷ c.take_input.new.inputs = c.in_ok-input.ensures in
+    let second : c.take_input.new.inputs ≡ c.in_ok-edited.edited.items ∷ c.take_input-2.new.inputs =
+    c.in_ok-edited.ensures in
+    short_first c.in_ok-edited.edited.items c.take_input-2.new.inputs
+    (subst AreShort second (short_rest c.in_ok-input.input.items c.take_input.new.inputs
     (subst AreShort first c.in_ok-beginning.ensures.playable.short)))
 
 pub make_round-requires-2-clause-same : goal.make_round-requires-2-clause-same
 make_round-requires-2-clause-same g c = λ lifetimes bounds.
     left_map c.args.crew.now.workers telling.Line (beginning_said c.in_ok-beginning.field-0.beginning)
-    c.in-Some.input.items c.args.crew.now.work.turns c.make_round.new.crew.work.turns
+    c.in_ok-input.input.items c.args.crew.now.work.turns c.make_round.new.crew.work.turns
     c.in_ok-first.first.text.items c.in_ok-first.first.exited (beginning_said c.in_ok-first.first.next)
     c.in_ok-first.ensures.played
 
 pub make_round-requires-2-clause-few : goal.make_round-requires-2-clause-few
 make_round-requires-2-clause-few g c = λ lifetimes bounds.
     let p : Plan = plan_said c.in_ok-beginning.field-0 in
-    let first : p.inputs ≡ c.in-Some.input.items ∷ c.take_next.new.self = rw c.in-Some.is at c.in_ok-input.ensures.taken in
-    let second : c.take_next.new.self ≡ c.in-Some-2.edited.items ∷ c.take_next-2.new.self =
-    rw c.in-Some-2.is at c.in_ok-edited.ensures.taken in
+    let first : p.inputs ≡ c.in_ok-input.input.items ∷ c.take_input.new.inputs = c.in_ok-input.ensures in
+    let second : c.take_input.new.inputs ≡ c.in_ok-edited.edited.items ∷ c.take_input-2.new.inputs =
+    c.in_ok-edited.ensures in
     let count = ap length first in let more = ap length second in
     let next = ap (λ (b : Beginning). b.number) c.in_ok-first.ensures.played.is_next in
     let few = c.in_ok-beginning.ensures.playable.few in
@@ -42,15 +42,15 @@ make_round-requires-2-clause-few g c = λ lifetimes bounds.
 pub returns-clause-lines : goal.returns-clause-lines
 returns-clause-lines g c =
     let p : Plan = plan_said c.in_ok-beginning.field-0 in
-    let first : p.inputs ≡ c.in-Some.input.items ∷ c.take_next.new.self = rw c.in-Some.is at c.in_ok-input.ensures.taken in
-    let second : c.take_next.new.self ≡ c.in-Some-2.edited.items ∷ c.take_next-2.new.self =
-    rw c.in-Some-2.is at c.in_ok-edited.ensures.taken in
-    let inputs : p.inputs ≡ c.in-Some.input.items ∷ c.in-Some-2.edited.items ∷ c.take_next-2.new.self =
-    first ∙ ap (λ l. c.in-Some.input.items ∷ l) second in
+    let first : p.inputs ≡ c.in_ok-input.input.items ∷ c.take_input.new.inputs = c.in_ok-input.ensures in
+    let second : c.take_input.new.inputs ≡ c.in_ok-edited.edited.items ∷ c.take_input-2.new.inputs =
+    c.in_ok-edited.ensures in
+    let inputs : p.inputs ≡ c.in_ok-input.input.items ∷ c.in_ok-edited.edited.items ∷ c.take_input-2.new.inputs =
+    first ∙ ap (λ l. c.in_ok-input.input.items ∷ l) second in
     let ends : c.if-first.result ≡ (c.in_ok-first.first.exited && c.in_ok-second.second.exited) =
     elim c.if-first.branch [ then-first w ↦ search rules | else-first w ↦ search rules ] in
-    both_generated c.args.crew.now.workers c.args.number p c.in-Some.input.items c.in-Some-2.edited.items
-    c.take_next-2.new.self c.in_ok-first.first.text.items c.in_ok-second.second.text.items c.in_ok-text.text.items
+    both_generated c.args.crew.now.workers c.args.number p c.in_ok-input.input.items c.in_ok-edited.edited.items
+    c.take_input-2.new.inputs c.in_ok-first.first.text.items c.in_ok-second.second.text.items c.in_ok-text.text.items
     c.in_ok-first.first.exited c.in_ok-second.second.exited c.if-first.result (beginning_said c.in_ok-first.first.next)
     (beginning_said c.in_ok-second.second.next) c.args.crew.now.work c.make_round.new.crew.work c.make_round-2.new.crew.work
     (let one = c.in_ok-first.ensures.made in let other = c.in_ok-second.ensures.made in omega arith)

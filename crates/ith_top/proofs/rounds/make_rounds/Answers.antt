@@ -40,25 +40,25 @@ returns-in_err-input-clause-refused g c =
 
 pub make_round-requires-clause-short : goal.make_round-requires-clause-short
 make_round-requires-clause-short g c = λ lifetimes bounds.
-    let taken : c.loop-place.inputs ≡ c.in-Some.input.items ∷ c.take_next.new.self =
-    rw c.in-Some.is at c.in_ok-input.ensures.taken in
-    short_first c.in-Some.input.items c.take_next.new.self (subst AreShort taken c.loop-place.invariant.short)
+    let taken : c.loop-place.inputs ≡ c.in_ok-input.input.items ∷ c.take_input.new.inputs =
+    c.in_ok-input.ensures in
+    short_first c.in_ok-input.input.items c.take_input.new.inputs (subst AreShort taken c.loop-place.invariant.short)
 
 pub make_round-requires-clause-same : goal.make_round-requires-clause-same
 make_round-requires-clause-same g c = λ lifetimes bounds. c.loop-place.invariant.map
 
 pub make_round-requires-clause-few : goal.make_round-requires-clause-few
 make_round-requires-clause-few g c = λ lifetimes bounds.
-    let fewer : length c.loop-place.inputs ≡ length (c.in-Some.input.items ∷ c.take_next.new.self) =
-    ap length (rw c.in-Some.is at c.in_ok-input.ensures.taken) in
+    let fewer : length c.loop-place.inputs ≡ length (c.in_ok-input.input.items ∷ c.take_input.new.inputs) =
+    ap length (c.in_ok-input.ensures) in
     let few = c.loop-place.invariant.few in omega arith
 
 pub returns-in_err-text-clause-refused : goal.returns-in_err-text-clause-refused
 returns-in_err-text-clause-refused g c =
     let w = g.H.Host.world in
     let made = c.loop-place.invariant.made in let one = c.make_round.ensures.one in
-    let fewer : length c.loop-place.inputs ≡ length (c.in-Some.input.items ∷ c.take_next.new.self) =
-    ap length (rw c.in-Some.is at c.in_ok-input.ensures.taken) in
+    let fewer : length c.loop-place.inputs ≡ length (c.in_ok-input.input.items ∷ c.take_input.new.inputs) =
+    ap length (c.in_ok-input.ensures) in
     let p = err_from_is_err_and c.from_residual-in_err-text.result c.from_residual-in_err-text.ensures.1 in
     rw (p.1, p.2)
     (going_cut (beginning_said c.args.plan.beginning) c.args.crew.now.workers c.args.plan.inputs (w c.args.host.now)
@@ -69,15 +69,15 @@ returns-in_err-text-clause-refused g c =
 pub returns-in_err-print_text-clause-refused : goal.returns-in_err-print_text-clause-refused
 returns-in_err-print_text-clause-refused g c =
     let w = g.H.Host.world in let made = c.loop-place.invariant.made in let one = c.make_round.ensures.one in
-    let taken : c.loop-place.inputs ≡ c.in-Some.input.items ∷ c.take_next.new.self =
-    rw c.in-Some.is at c.in_ok-input.ensures.taken in
-    let fewer : length c.loop-place.inputs ≡ length (c.in-Some.input.items ∷ c.take_next.new.self) = ap length taken in
+    let taken : c.loop-place.inputs ≡ c.in_ok-input.input.items ∷ c.take_input.new.inputs =
+    c.in_ok-input.ensures in
+    let fewer : length c.loop-place.inputs ≡ length (c.in_ok-input.input.items ∷ c.take_input.new.inputs) = ap length taken in
     let p = err_from_is_err_and c.from_residual-in_err-print_text.result c.from_residual-in_err-print_text.ensures.1 in
     rw (p.1, p.2)
     (going_unprinted (beginning_said c.args.plan.beginning) c.args.crew.now.workers c.args.plan.inputs
     (w c.args.host.now) (w c.loop-place.host) (w c.print_text.new.host)
     c.args.crew.now.work.turns c.loop-place.crew.work.turns c.make_round.new.crew.work.turns
-    (beginning_said c.loop-place.beginning) c.in-Some.input.items c.take_next.new.self c.loop-place.exits
+    (beginning_said c.loop-place.beginning) c.in_ok-input.input.items c.take_input.new.inputs c.loop-place.exits
     c.in_ok-text.field-0.text.items c.in_ok-text.field-0.exited (beginning_said c.in_ok-text.field-0.next)
     c.args.crew.now.work c.make_round.new.crew.work c.in_err-print_text.field-0.0
     (rw taken at c.loop-place.invariant.going)
@@ -87,9 +87,9 @@ returns-in_err-print_text-clause-refused g c =
 pub loop-place-preserved : goal.loop-place-preserved
 loop-place-preserved g c =
     let w = g.H.Host.world in
-    let taken : c.loop-place.inputs ≡ c.in-Some.input.items ∷ c.take_next.new.self =
-    rw c.in-Some.is at c.in_ok-input.ensures.taken in
-    let fewer : length c.loop-place.inputs ≡ length (c.in-Some.input.items ∷ c.take_next.new.self) = ap length taken in
+    let taken : c.loop-place.inputs ≡ c.in_ok-input.input.items ∷ c.take_input.new.inputs =
+    c.in_ok-input.ensures in
+    let fewer : length c.loop-place.inputs ≡ length (c.in_ok-input.input.items ∷ c.take_input.new.inputs) = ap length taken in
     let left : c.loop-place.place + length c.loop-place.inputs ≡ c.len-place-end.result = c.loop-place.invariant.left in
     let now : Beginning = beginning_said c.loop-place.beginning in
     let next : Beginning = beginning_said c.in_ok-text.field-0.next in
@@ -98,17 +98,17 @@ loop-place-preserved g c =
       going = going_next (beginning_said c.args.plan.beginning) c.args.crew.now.workers c.args.plan.inputs
           (w c.args.host.now) (w c.loop-place.host) (w c.print_text.new.host)
           c.args.crew.now.work.turns c.loop-place.crew.work.turns c.make_round.new.crew.work.turns now next
-          c.in-Some.input.items c.take_next.new.self c.loop-place.exits
+          c.in_ok-input.input.items c.take_input.new.inputs c.loop-place.exits
           c.in_ok-text.field-0.text.items c.in_ok-text.field-0.exited
           (rw taken at c.loop-place.invariant.going)
           (rw c.loop-place.invariant.workers at c.in_ok-text.ensures.played)
           (rw (← c.as_slice.ensures.value) c.in_ok-print_text.ensures.printed) c.in_ok-print_text.ensures.counts
           c.in_ok-print_text.ensures.asked;
       left = omega arith;
-      short = short_rest c.in-Some.input.items c.take_next.new.self (subst AreShort taken c.loop-place.invariant.short);
+      short = short_rest c.in_ok-input.input.items c.take_input.new.inputs (subst AreShort taken c.loop-place.invariant.short);
       few = let number : next.number ≡ now.number + 1 = ap (λ (b : Beginning). b.number) is_next in
           let few = c.loop-place.invariant.few in omega arith;
-      map = left_map c.loop-place.crew.workers telling.Report now c.in-Some.input.items
+      map = left_map c.loop-place.crew.workers telling.Report now c.in_ok-input.input.items
           c.loop-place.crew.work.turns c.make_round.new.crew.work.turns c.in_ok-text.field-0.text.items
           c.in_ok-text.field-0.exited next c.in_ok-text.ensures.played;
       some = λ none. absurd (let no = ap (λ (b : Beginning). b.past) is_next in cc);
@@ -121,14 +121,14 @@ returns-clause-played g c =
     let w = g.H.Host.world in
     going_played (beginning_said c.args.plan.beginning) c.args.crew.now.workers c.args.plan.inputs (w c.args.host.now)
     (w c.loop-place.host) (beginning_said c.loop-place.beginning) c.loop-place.inputs c.loop-place.exits
-    (arc_value c.in-Some-past.left) c.args.crew.now.work c.loop-place.crew.work
+    (arc_value c.in-Some.left) c.args.crew.now.work c.loop-place.crew.work
     (none_left c.loop-place.inputs c.loop-place.place c.len-place-end.result c.loop-place.invariant.left
     c.loop-place-test.false)
-    (ap (option_map arc_value) c.in-Some-past.is)
+    (ap (option_map arc_value) c.in-Some.is)
     c.loop-place.invariant.going c.loop-place.invariant.made
 
-pub unreachable-requires-in-None : goal.unreachable-requires-in-None
-unreachable-requires-in-None g c =
+pub unreachable-requires : goal.unreachable-requires
+unreachable-requires g c =
     let none = ap (option_map arc_value) c.in-None.is in
     let start = c.loop-place.invariant.some none in
     let left = c.loop-place.invariant.left in
