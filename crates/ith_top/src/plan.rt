@@ -1,7 +1,7 @@
 //! What rounds a line asks for: its files are read, then the executable or the memo is looked at, and then the edit
 //! lists are.
 
-ghost use Rattle.std.specs.Prelude.{◌≡◌, ◌<◌, ◌≤◌, [], ◌∷◌, length, IfOk, IfErr};
+ghost use Rattle.std.specs.Prelude.{◌≡◌, ◌<◌, ◌≤◌, [], ◌∷◌, length, IfOk, IfErr, OnErr};
 ghost use Rattle.machine_spec.specs.Limits.{AreLimits};
 ghost use Rattle.machine_spec.specs.Setup.{IsSetup};
 ghost use Rattle.memo_spec.specs.Encoding.{AreBytes};
@@ -54,9 +54,14 @@ pub struct Plan {
 }
 
 /// The next of some inputs, which is taken out. There is one.
+///
+/// # Errors
+///
+/// An error if the host's memory ran out. The inputs are then as before.
 pub fn take_input(inputs: &mut Inputs) -> Result<Vec<u8>, AllocError>
     requires { 0 < length inputs.old }
-    ensures { IfOk result (λ input. inputs.old ≡ input.items ∷ inputs.new) }
+    ensures taken { IfOk result (λ input. inputs.old ≡ input.items ∷ inputs.new) }
+    ensures kept { OnErr result (inputs.new ≡ inputs.old) }
 {
     let Some(input) = inputs.take_next()? else {
         unreachable!()

@@ -3,7 +3,7 @@ use Rattle.std.proofs.Common.{◌≡◌, ◌+◌, ◌-◌, ◌<◌, ◌≤◌, �
 use Rattle.std.proofs.lemmas.List.{length-replicate}
 use Rattle.machine_spec.specs.Setup.{Setup, IsSetup}
 use Rattle.history_spec.specs.History.{History, IsSound}
-use Rattle.round_spec.specs.Rounds.{RoundState}
+use Rattle.round_spec.specs.Rounds.{RoundState, opening}
 use Rattle.round_spec.specs.Schedules.{IsBySchedule}
 use Rattle.round_spec.specs.Alone.{lone_round}
 use Rattle.round_spec.proofs.Leaving.{round-setup, round-past}
@@ -110,6 +110,14 @@ by-several workers setup past w worker_steps turns compared many valid closed st
           (own.replays h (is_past ∙ is)
           (unedited-repeats h w.setup (subst (IsUnedited h) (sym is_setup) unedited))) ended;
     }
+
+-- a round that was opened is of its setup, and goes by its history, also when it is closed
+pub closed-opening :
+    (w : RoundState) (worker_steps : List ℕ) (turns compared : ℕ) (setup : Setup) (past : Option History) (first : RoundState)
+    → first ≡ opening setup past → IsClosed first.setup first.past w worker_steps turns compared
+    → IsClosed setup past w worker_steps turns compared
+closed-opening w worker_steps turns compared setup past first is by =
+    subst (λ (x : RoundState). IsClosed x.setup x.past w worker_steps turns compared) is by
 
 -- the steps of each worker where the first made all
 

@@ -1,6 +1,6 @@
 //! A round by so many workers.
 
-ghost use Rattle.std.specs.Prelude.{◌≡◌, ◌-◌, ◌<◌, ◌≤◌, ◌∷◌, Some, length, replicate, option_map, IfOk};
+ghost use Rattle.std.specs.Prelude.{◌≡◌, ◌-◌, ◌<◌, ◌≤◌, ◌∷◌, [], Some, length, replicate, option_map, IfOk};
 ghost use Rattle.std.specs.Arc.{arc_value};
 ghost use Rattle.history_spec.specs.History.{History as OldHistory};
 ghost use Rattle.round_spec.specs.Rounds.{opening};
@@ -67,34 +67,44 @@ fn run_by_first<G: Gate>(
     })
 }
 
-/// The same, of which the number of its steps alone is read, when it is finished.
-fn run_by_first_watched<G: Gate>(
-    alloc: Global,
-    setup: Setup,
-    past: Option<Arc<History>>,
-    workers: u32,
-    gate: &G,
-    effort: Effort,
-) -> Result<(ClosedRound, Vec<u64>), AllocError>
-    requires some { 1 ≤ workers }
-    requires unused { workers ≡ 1 → effort.turns ≡ 0 }
-    requires idle { (h : OldHistory) → option_map arc_value past ≡ Some h → IsUnedited h setup
-        → effort.turns ≡ 0 }
-    requires spares { ComparesNone setup (option_map arc_value past) effort.compared }
-    ensures round { IfOk result (λ r.
-        IsRoundBy workers setup (option_map arc_value past) r.0.round r.0.worker_steps.items) }
-    ensures worker_steps { IfOk result (λ r. r.0.worker_steps.items
-        ≡ length r.0.round.schedule ∷ replicate (workers - 1) 0) }
-    ensures cost { IfOk result
-        (λ r. IsCostOf workers setup (option_map arc_value past) r.0.round r.0.effort.turns) }
-    ensures spares { IfOk result
-        (λ r. ComparesNone setup (option_map arc_value past) r.0.effort.compared) }
-    ensures progress { IfOk result (λ r. IsProgress workers (length r.0.round.schedule) r.1.items) }
+/// A round and the number of its steps, which alone is read of it, when it is finished.
+fn with_last(alloc: Global, worked: ClosedRound) -> Result<(ClosedRound, Vec<u64>), AllocError>
+    ensures same { IfOk result (λ r. r.0 ≡ worked) }
+    ensures last { IfOk result (λ r. r.1.items ≡ length worked.round.schedule ∷ []) }
 {
-    let worked = run_by_first(alloc, setup, past, workers, gate, effort)?;
     let mut numbers = Vec::new(alloc);
     numbers.push(worked.round.schedule().len() as u64)?;
     Ok((worked, numbers))
+}
+
+/// A round that several workers made if it has an end. If it has none, and memory didn't run out, it is made anew by
+/// the first of them.
+fn run_anew<G: Gate>(
+    alloc: Global,
+    unfinished: ClosedRound,
+    workers: u32,
+    gate: &G,
+) -> Result<ClosedRound, AllocError>
+    requires several { 1 < workers }
+    requires idle { (h : OldHistory) → unfinished.round.past ≡ Some h
+        → IsUnedited h unfinished.round.setup → unfinished.effort.turns ≡ 0 }
+    requires spares { ComparesNone unfinished.round.setup unfinished.round.past
+        unfinished.effort.compared }
+    ensures round { IfOk result (λ r.
+        IsRoundBy workers unfinished.round.setup unfinished.round.past r.round
+        r.worker_steps.items) }
+    ensures cost { IfOk result
+        (λ r. IsCostOf workers unfinished.round.setup unfinished.round.past r.round
+        r.effort.turns) }
+    ensures spares { IfOk result
+        (λ r. ComparesNone unfinished.round.setup unfinished.round.past r.effort.compared) }
+{
+    let ClosedRound { round, effort, .. } = unfinished;
+    if round.stopped() {
+        return Err(AllocError);
+    }
+    let (setup, past) = round.into_setup();
+    run_by_first(alloc, setup, past, workers, gate, effort)
 }
 
 /// A round that so many workers made together until it was finished, or until the host's memory ran out.
@@ -166,12 +176,7 @@ pub fn run_round<R: Threads + Wait + Sync, G: Gate + Sync>(
     if worked.round.end().is_some() {
         return Ok(worked);
     }
-    let ClosedRound { round, effort, .. } = worked;
-    if round.stopped() {
-        return Err(AllocError);
-    }
-    let (setup, past) = round.into_setup();
-    run_by_first(alloc, setup, past, workers, gate, effort)
+    run_anew(alloc, worked, workers, gate)
 }
 
 /// A round as `run_round` makes it, and the numbers of steps that were read meanwhile: they ascend, and the last is how
@@ -200,7 +205,8 @@ pub fn run_round_watched<R: Threads + Wait + Sync, G: Gate + Sync>(
     ensures progress { IfOk result (λ r. IsProgress workers (length r.0.round.schedule) r.1.items) }
 {
     if workers == 1 {
-        return run_by_first_watched(alloc, setup, past, workers, gate, Effort::new(rt));
+        let alone = run_by_first(alloc, setup, past, workers, gate, Effort::new(rt))?;
+        return with_last(alloc, alone);
     }
     let counter = Counter::new(alloc)?;
     let begun = Round::new(alloc, setup, past)?;
@@ -218,10 +224,6 @@ pub fn run_round_watched<R: Threads + Wait + Sync, G: Gate + Sync>(
     if worked.round.end().is_some() {
         return Ok((worked, numbers));
     }
-    let ClosedRound { round, effort, .. } = worked;
-    if round.stopped() {
-        return Err(AllocError);
-    }
-    let (setup, past) = round.into_setup();
-    run_by_first_watched(alloc, setup, past, workers, gate, effort)
+    let anew = run_anew(alloc, worked, workers, gate)?;
+    with_last(alloc, anew)
 }

@@ -1,5 +1,4 @@
-//! The 64 objects of one kind, a row done at the object of a number, and what a call does to the threads. No call takes
-//! memory.
+//! The 64 objects of one kind, and a row done at the object of a number. No call takes memory.
 
 ghost use Rattle.std.specs.Prelude.{◌≡◌, ◌<◌, replicate, slice_index_or};
 ghost use Rattle.std.specs.Fn.{FnOnceTakesAtMut};

@@ -14,9 +14,9 @@ use Rattle.ith_top.proofs.generating.make_both.Goals.{then-first, else-first}
 pub make_round-requires-2-clause-short : goal.make_round-requires-2-clause-short
 make_round-requires-2-clause-short g c = λ lifetimes bounds.
     let p : Plan = plan_said c.in_ok-beginning.field-0 in
-    let first : p.inputs ≡ c.in_ok-input.input.items ∷ c.take_input.new.inputs = c.in_ok-input.ensures in
+    let first : p.inputs ≡ c.in_ok-input.input.items ∷ c.take_input.new.inputs = c.in_ok-input.ensures.taken in
     let second : c.take_input.new.inputs ≡ c.in_ok-edited.edited.items ∷ c.take_input-2.new.inputs =
-    c.in_ok-edited.ensures in
+    c.in_ok-edited.ensures.taken in
     short_first c.in_ok-edited.edited.items c.take_input-2.new.inputs
     (subst AreShort second (short_rest c.in_ok-input.input.items c.take_input.new.inputs
     (subst AreShort first c.in_ok-beginning.ensures.playable.short)))
@@ -31,9 +31,9 @@ make_round-requires-2-clause-same g c = λ lifetimes bounds.
 pub make_round-requires-2-clause-few : goal.make_round-requires-2-clause-few
 make_round-requires-2-clause-few g c = λ lifetimes bounds.
     let p : Plan = plan_said c.in_ok-beginning.field-0 in
-    let first : p.inputs ≡ c.in_ok-input.input.items ∷ c.take_input.new.inputs = c.in_ok-input.ensures in
+    let first : p.inputs ≡ c.in_ok-input.input.items ∷ c.take_input.new.inputs = c.in_ok-input.ensures.taken in
     let second : c.take_input.new.inputs ≡ c.in_ok-edited.edited.items ∷ c.take_input-2.new.inputs =
-    c.in_ok-edited.ensures in
+    c.in_ok-edited.ensures.taken in
     let count = ap length first in let more = ap length second in
     let next = ap (λ (b : Beginning). b.number) c.in_ok-first.ensures.played.is_next in
     let few = c.in_ok-beginning.ensures.playable.few in
@@ -42,9 +42,9 @@ make_round-requires-2-clause-few g c = λ lifetimes bounds.
 pub returns-clause-lines : goal.returns-clause-lines
 returns-clause-lines g c =
     let p : Plan = plan_said c.in_ok-beginning.field-0 in
-    let first : p.inputs ≡ c.in_ok-input.input.items ∷ c.take_input.new.inputs = c.in_ok-input.ensures in
+    let first : p.inputs ≡ c.in_ok-input.input.items ∷ c.take_input.new.inputs = c.in_ok-input.ensures.taken in
     let second : c.take_input.new.inputs ≡ c.in_ok-edited.edited.items ∷ c.take_input-2.new.inputs =
-    c.in_ok-edited.ensures in
+    c.in_ok-edited.ensures.taken in
     let inputs : p.inputs ≡ c.in_ok-input.input.items ∷ c.in_ok-edited.edited.items ∷ c.take_input-2.new.inputs =
     first ∙ ap (λ l. c.in_ok-input.input.items ∷ l) second in
     let ends : c.if-first.result ≡ (c.in_ok-first.first.exited && c.in_ok-second.second.exited) =

@@ -41,7 +41,7 @@ returns-in_err-input-clause-refused g c =
 pub make_round-requires-clause-short : goal.make_round-requires-clause-short
 make_round-requires-clause-short g c = λ lifetimes bounds.
     let taken : c.loop-place.inputs ≡ c.in_ok-input.input.items ∷ c.take_input.new.inputs =
-    c.in_ok-input.ensures in
+    c.in_ok-input.ensures.taken in
     short_first c.in_ok-input.input.items c.take_input.new.inputs (subst AreShort taken c.loop-place.invariant.short)
 
 pub make_round-requires-clause-same : goal.make_round-requires-clause-same
@@ -50,7 +50,7 @@ make_round-requires-clause-same g c = λ lifetimes bounds. c.loop-place.invarian
 pub make_round-requires-clause-few : goal.make_round-requires-clause-few
 make_round-requires-clause-few g c = λ lifetimes bounds.
     let fewer : length c.loop-place.inputs ≡ length (c.in_ok-input.input.items ∷ c.take_input.new.inputs) =
-    ap length (c.in_ok-input.ensures) in
+    ap length (c.in_ok-input.ensures.taken) in
     let few = c.loop-place.invariant.few in omega arith
 
 pub returns-in_err-text-clause-refused : goal.returns-in_err-text-clause-refused
@@ -58,7 +58,7 @@ returns-in_err-text-clause-refused g c =
     let w = g.H.Host.world in
     let made = c.loop-place.invariant.made in let one = c.make_round.ensures.one in
     let fewer : length c.loop-place.inputs ≡ length (c.in_ok-input.input.items ∷ c.take_input.new.inputs) =
-    ap length (c.in_ok-input.ensures) in
+    ap length (c.in_ok-input.ensures.taken) in
     let p = err_from_is_err_and c.from_residual-in_err-text.result c.from_residual-in_err-text.ensures.1 in
     rw (p.1, p.2)
     (going_cut (beginning_said c.args.plan.beginning) c.args.crew.now.workers c.args.plan.inputs (w c.args.host.now)
@@ -70,7 +70,7 @@ pub returns-in_err-print_text-clause-refused : goal.returns-in_err-print_text-cl
 returns-in_err-print_text-clause-refused g c =
     let w = g.H.Host.world in let made = c.loop-place.invariant.made in let one = c.make_round.ensures.one in
     let taken : c.loop-place.inputs ≡ c.in_ok-input.input.items ∷ c.take_input.new.inputs =
-    c.in_ok-input.ensures in
+    c.in_ok-input.ensures.taken in
     let fewer : length c.loop-place.inputs ≡ length (c.in_ok-input.input.items ∷ c.take_input.new.inputs) = ap length taken in
     let p = err_from_is_err_and c.from_residual-in_err-print_text.result c.from_residual-in_err-print_text.ensures.1 in
     rw (p.1, p.2)
@@ -88,7 +88,7 @@ pub loop-place-preserved : goal.loop-place-preserved
 loop-place-preserved g c =
     let w = g.H.Host.world in
     let taken : c.loop-place.inputs ≡ c.in_ok-input.input.items ∷ c.take_input.new.inputs =
-    c.in_ok-input.ensures in
+    c.in_ok-input.ensures.taken in
     let fewer : length c.loop-place.inputs ≡ length (c.in_ok-input.input.items ∷ c.take_input.new.inputs) = ap length taken in
     let left : c.loop-place.place + length c.loop-place.inputs ≡ c.len-place-end.result = c.loop-place.invariant.left in
     let now : Beginning = beginning_said c.loop-place.beginning in

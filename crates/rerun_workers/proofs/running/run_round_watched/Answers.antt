@@ -1,19 +1,8 @@
 -- What is left to prove of `run_round_watched`.
-use Rattle.std.proofs.Common.{◌≡◌, ℕ, List, Option, option_map, is_some, ap, sym, subst, ◌∙◌, arith}
+use Rattle.std.proofs.Common.{option_map, is_some, ap, sym, ◌∙◌, arith}
 use Rattle.std.specs.Arc.{arc_value}
-use Rattle.machine_spec.specs.Setup.{Setup}
-use Rattle.history_spec.specs.History.{History}
-use Rattle.round_spec.specs.Rounds.{RoundState, opening}
-use Rattle.rerun_workers.specs.Making.{IsClosed}
-use Rattle.rerun_workers.proofs.Made.{by-several, cost-several}
+use Rattle.rerun_workers.proofs.Made.{closed-opening, by-several, cost-several}
 use Rattle.rerun_workers.proofs.running.run_round_watched.Goals as goal
-
-closed :
-    (w : RoundState) (worker_steps : List ℕ) (turns compared : ℕ) (setup : Setup) (past : Option History) (first : RoundState)
-    → first ≡ opening setup past → IsClosed first.setup first.past w worker_steps turns compared
-    → IsClosed setup past w worker_steps turns compared
-closed w worker_steps turns compared setup past first is by =
-    subst (λ (x : RoundState). IsClosed x.setup x.past w worker_steps turns compared) is by
 
 pub returns-then-is_some-clause-round : goal.returns-then-is_some-clause-round
 returns-then-is_some-clause-round g c =
@@ -22,7 +11,7 @@ returns-then-is_some-clause-round g c =
     worked.effort.compared
     (let some = c.requires in let several = c.if-workers-eq1.false in omega (arith, some, several))
     c.end.ensures.valid.setup
-    (closed worked.round worked.worker_steps.items worked.effort.turns worked.effort.compared c.args.setup (option_map arc_value c.args.past)
+    (closed-opening worked.round worked.worker_steps.items worked.effort.turns worked.effort.compared c.args.setup (option_map arc_value c.args.past)
     c.in_ok-begun.begun c.in_ok-begun.ensures.round c.in_ok-worked.ensures.closed)
     c.end.ensures.valid.by_schedule
     (ap is_some (sym c.end.ensures.ending) ∙ sym c.is_some.ensures ∙ c.if-is_some.true)
@@ -33,7 +22,7 @@ returns-then-is_some-clause-cost g c =
     let worked = c.in_ok-worked.worked in
     cost-several c.args.workers worked.effort.turns worked.effort.compared c.args.setup (option_map arc_value c.args.past) worked.round worked.worker_steps.items
     (let some = c.requires in let several = c.if-workers-eq1.false in omega (arith, some, several))
-    (closed worked.round worked.worker_steps.items worked.effort.turns worked.effort.compared c.args.setup (option_map arc_value c.args.past)
+    (closed-opening worked.round worked.worker_steps.items worked.effort.turns worked.effort.compared c.args.setup (option_map arc_value c.args.past)
     c.in_ok-begun.begun c.in_ok-begun.ensures.round c.in_ok-worked.ensures.closed)
 
 pub returns-then-is_some-clause-progress : goal.returns-then-is_some-clause-progress
@@ -48,6 +37,6 @@ returns-then-is_some-clause-progress g c =
 pub returns-then-is_some-clause-spares : goal.returns-then-is_some-clause-spares
 returns-then-is_some-clause-spares g c =
     let worked = c.in_ok-worked.worked in
-    (closed worked.round worked.worker_steps.items worked.effort.turns worked.effort.compared c.args.setup
+    (closed-opening worked.round worked.worker_steps.items worked.effort.turns worked.effort.compared c.args.setup
     (option_map arc_value c.args.past) c.in_ok-begun.begun c.in_ok-begun.ensures.round
     c.in_ok-worked.ensures.closed).spares
