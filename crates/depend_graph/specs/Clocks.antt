@@ -9,7 +9,7 @@ use Rattle.depend_graph.specs.declared.objects.ObjectClock.{ObjectClock}
 use Rattle.depend_graph.specs.declared.objects.ObjectClocks.{ObjectClocks}
 use Rattle.depend_graph.specs.declared.pages.PageClocks.{PageClocks}
 
--- The clock of a thread; the clock of an object, which counts nothing where there is none; that of a page, likewise.
+-- The clocks of a thread, of an object, and of a page. An object or a page without a clock counts no step.
 abbrev pub thread_clock : ThreadClocks → ℕ → List ℕ
 thread_clock s t = slice_index_or s.clocks t []
 

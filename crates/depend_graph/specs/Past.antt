@@ -1,4 +1,4 @@
--- What the steps so far leave for the clocks of those after them.
+-- What the clocks of later steps need of the steps so far.
 use Rattle.std.specs.Prelude.{ℕ, ◌<◌, ◌==◌, ◌&&◌, ◌||◌, not, nat_le, Bool, List}
 use Rattle.guest_call.specs.declared.thread_number.TheConstants.{THREADS}
 use Rattle.guest_call.specs.declared.Object.{Object}

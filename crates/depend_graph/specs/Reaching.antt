@@ -1,4 +1,4 @@
--- What changed pages reach, as one pass over the steps tells it.
+-- What changed pages reach, computed in one pass over the steps.
 use Rattle.std.specs.Prelude.{◌≡◌, ◌<◌, ◌+◌, ℕ, suc, ◌==◌, ◌&&◌, ◌||◌, not, nat_lt, nat_le, Bool, false, List, map, Vec, slice_index, slice_index_or, if◌then◌else◌}
 use Rattle.std.specs.Global.{Global}
 use Rattle.std.specs.Option.{option_map_or}
@@ -17,12 +17,12 @@ use Rattle.depend_graph.specs.declared.reaching.Reached.{Reached}
 abbrev pub slots_of_each : List (Vec ℕ Global) → List (List ℕ)
 slots_of_each vectors = map (λ v. v.items) vectors
 
--- Whether a view shows a page with a change, if it was given by the step just before a place.
+-- Whether a view that the step just before a place gave shows a page with a change.
 abbrev pub shows : Changes → ℕ → ℕ → Bool
 shows c p e = option_map_or (λ from. nat_le from e) (get nat_cmp c.from p) false
 
 -- Whether the last step of a thread is reached, and one more than the place of the step that gave its next thunk a
--- view.
+-- view, or 0 if no step did.
 abbrev pub led_of : Reached → ℕ → Bool
 led_of past t = slice_index_or past.led t false
 
@@ -33,7 +33,7 @@ end_of past t = slice_index past.ends t
 abbrev pub is_last : List Fact → ℕ → ℕ → ℕ → Bool
 is_last fs n t i = is_of fs t i && all_below (λ k. nat_le k i || not ((fact_at fs k).thread == t)) n
 
--- One step more, at a place, is past: it is reached or not.
+-- One step more, at a place, which is reached or not.
 pub record IsStepMore (before after : Reached) (f : Fact) (place : ℕ) (reached : Bool) : Type 0 where
   pub led : (t : ℕ) → t < THREADS → led_of after t ≡ (if f.thread == t then reached else led_of before t)
   pub ends : (t : ℕ) → t < THREADS
@@ -41,7 +41,7 @@ pub record IsStepMore (before after : Reached) (f : Fact) (place : ℕ) (reached
   pub shows : (p e : ℕ)
       → shows after.changes p e ≡ (shows before.changes p e || (reached && (nat_lt place e && is_in p f.written)))
 
--- What the first n steps leave for those after them, where some pages are changed.
+-- What later steps need of the first n steps, if some pages are changed.
 pub record IsReachedPast (fs : List Fact) (reads : List (List ℕ)) (pages : List ℕ) (n : ℕ) (past : Reached) : Type 0
   where
     pub led : (t : ℕ) → t < THREADS

@@ -1,4 +1,4 @@
-//! Vector clocks: how many steps of each thread come up to a point. No call takes memory.
+//! Vector clocks: how many steps of each thread come up to a point. No function allocates memory.
 
 ghost use Rattle.std.specs.Prelude.{◌≡◌, ℕ, ◌+◌, ◌<◌, ◌≤◌, ◌↔◌, max, length, slice_index, slice_set, IsTrue};
 
@@ -56,7 +56,7 @@ impl Clock {
         self.counts[usize::from(t)]
     }
 
-    /// The larger of each thread's two counts.
+    /// Raises each thread's count to the other clock's, if that is larger.
     pub fn join(&mut self, other: &Clock)
         ensures count { length self.new ≡ THREADS }
         ensures larger { (t : ℕ)
@@ -77,7 +77,7 @@ impl Clock {
         theirs.simd_le(mine).all()
     }
 
-    /// Thread `t` makes one step more.
+    /// Counts one step more of thread `t`.
     pub fn tick(&mut self, t: u8)
         requires thread { t < THREADS }
         requires room { slice_index self.old t < MOST_COUNT }

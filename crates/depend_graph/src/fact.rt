@@ -41,11 +41,11 @@ impl Model for Fact {
 }
 
 impl Fact {
-    /// What threads and objects order the step by: the fact without its pages, and without whether it ends the run.
+    /// The fact without its pages, and without whether it ends the run: what threads and objects order the step by.
     ///
     /// # Errors
     ///
-    /// An error where the host's memory ran out.
+    /// An error if the host's memory ran out.
     pub fn without_pages(&self, alloc: Global) -> Result<Fact, AllocError>
         ensures { IfOk result (λ fact. fact ≡ sync_fact self.now) }
     {

@@ -41,11 +41,11 @@ impl Model for Graph {
 }
 
 impl Graph {
-    /// The graph of these facts. One pass over them.
+    /// Builds the graph of these facts, in one pass over them.
     ///
     /// # Errors
     ///
-    /// An error where the host's memory ran out.
+    /// An error if the host's memory ran out.
     pub fn of(alloc: Global, facts: Vec<Fact>) -> Result<Graph, AllocError>
         requires few { length facts.items ≤ MOST_FACTS }
         requires threads { All (λ (f : StepFact). f.thread < THREADS) facts.items }
@@ -65,13 +65,13 @@ impl Graph {
         })
     }
 
-    /// The graph of these facts by threads and objects alone: a step comes directly before a later one where both are
-    /// of one thread, where it gave the later one's thunk its view, or where both act on one object. One pass over
-    /// them.
+    /// Builds the graph of these facts by threads and objects alone, in one pass over them. A step comes directly
+    /// before a later one if both are of one thread, if it gave the later one's thunk its view, or if both act on one
+    /// object.
     ///
     /// # Errors
     ///
-    /// An error where the host's memory ran out.
+    /// An error if the host's memory ran out.
     pub fn of_sync(alloc: Global, facts: &[Fact]) -> Result<Graph, AllocError>
         requires few { length facts.now ≤ MOST_FACTS }
         requires threads { All (λ (f : StepFact). f.thread < THREADS) facts.now }
@@ -111,7 +111,7 @@ impl Graph {
     ///
     /// # Errors
     ///
-    /// An error where the host's memory ran out.
+    /// An error if the host's memory ran out.
     pub fn edges(&self, i: usize) -> Result<Vec<usize>, AllocError>
         requires { i < length self.now }
         ensures { IfOk result (λ places. places.items ≡ edges_at self.now i) }
@@ -125,12 +125,12 @@ impl Graph {
         Ok(places)
     }
 
-    /// For each step whether changed pages reach it, by the slots of the pages that each step reads. One pass over the
-    /// steps.
+    /// Returns for each step whether changed pages reach it, in one pass over the steps. `reads` has the slots of the
+    /// pages that each step reads.
     ///
     /// # Errors
     ///
-    /// An error where the host's memory ran out.
+    /// An error if the host's memory ran out.
     pub fn reach(&self, reads: &[Vec<usize>], changed: &[usize]) -> Result<Vec<bool>, AllocError>
         requires { length reads.now ≡ length self.now }
         ensures { IfOk result (λ flags. flags.items

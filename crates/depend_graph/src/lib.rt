@@ -1,5 +1,5 @@
-//! Which steps of a history must come before which, as a graph: the clock of each step tells which steps come before
-//! it, directly or through others.
+//! Which steps of a history must come before which, as a graph: the clock of each step determines which steps come
+//! before it, directly or through others.
 #![tactic(auto)]
 
 mod before;

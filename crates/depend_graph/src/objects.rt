@@ -33,7 +33,7 @@ pub struct ObjectClocks {
 }
 
 impl ObjectClocks {
-    /// No clock was joined to any. Takes no memory.
+    /// No clock was joined to any. Allocates no memory.
     pub fn new(alloc: Global) -> ObjectClocks
         ensures { (o : ObjectName) (u : ℕ) → slice_index (object_clock result o) u ≡ 0 }
     {

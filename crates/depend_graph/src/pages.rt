@@ -15,7 +15,7 @@ pub struct PageClocks {
 }
 
 impl PageClocks {
-    /// No clock was joined to any. Takes no memory.
+    /// No clock was joined to any. Allocates no memory.
     pub fn new(alloc: Global) -> PageClocks
         ensures { (p u : ℕ) → slice_index (page_clock result p) u ≡ 0 }
     {

@@ -1,4 +1,4 @@
-//! What the steps so far leave for the clocks of those after them.
+//! What the clocks of later steps need of the steps so far.
 
 ghost use Rattle.std.specs.Prelude.{◌≡◌, ◌+◌, ◌<◌, ◌≤◌, ℕ, max, List, All, length, slice_index, OnOk, if◌then◌else◌};
 ghost use Rattle.history_spec.specs.Facts.{Fact as StepFact};
@@ -32,7 +32,7 @@ pub struct Past {
 }
 
 impl Past {
-    /// No step yet. Takes no memory.
+    /// No step yet. Allocates no memory.
     pub fn new(alloc: Global) -> Past
         ensures { (facts : List StepFact) → IsPastOf facts 0 result }
     {
@@ -74,7 +74,7 @@ impl Past {
         clock
     }
 
-    /// The clock of the step at place `n`, where those before it are past.
+    /// The clock of the step at place `n`, if this is the past of the steps before it.
     pub fn clock_of(&self, facts: &[Fact], n: usize) -> Clock
         requires in_range { n < length facts.now }
         requires few { length facts.now ≤ MOST_FACTS }
@@ -88,11 +88,11 @@ impl Past {
         clock
     }
 
-    /// The step at place `n`, which has this clock, is past too.
+    /// Adds the step at place `n`, which has this clock.
     ///
     /// # Errors
     ///
-    /// An error where the host's memory ran out.
+    /// An error if the host's memory ran out.
     pub fn add(&mut self, facts: &[Fact], n: usize, clock: &Clock) -> Result<(), AllocError>
         requires in_range { n < length facts.now }
         requires threads { All (λ (f : StepFact). f.thread < THREADS) facts.now }

@@ -13,15 +13,16 @@ use guest_call::THREADS;
 use std::alloc::{AllocError, Global};
 use std::collections::BTreeMap;
 
-/// The changes of pages: for each page that shows one, the place from which on a view that is given shows it. That is 0
-/// for a page that is changed itself, and else one more than the place of the first reached step that writes it.
+/// The changes of pages. For each page that shows a change there is a place: a view shows the change if it was given by
+/// the step before this place, or later. The place is 0 for a page that is changed itself, and otherwise one more than
+/// the place of the first reached step that writes it.
 #[derive(Drop)]
 pub struct Changes {
     from: BTreeMap<usize, usize>,
 }
 
 impl Changes {
-    /// No page shows a change. Takes no memory.
+    /// No page shows a change. Allocates no memory.
     fn new(alloc: Global) -> Changes
         ensures { (p e : ℕ) → shows result p e ≡ false }
     {
@@ -44,7 +45,7 @@ impl Changes {
         slots.iter().any(|slot| self.shows(*slot, end))
     }
 
-    /// A page shows a change from a place on.
+    /// Notes that a page shows a change from a place on.
     fn add_one(&mut self, slot: usize, from: usize) -> Result<(), AllocError>
         ensures at { (e : ℕ)
             → OnOk result (shows self.new slot e ≡ (shows self.old slot e || nat_le from e)) }
@@ -60,7 +61,7 @@ impl Changes {
         }
     }
 
-    /// Some pages show a change from a place on.
+    /// Notes that some pages show a change from a place on.
     fn add(&mut self, slots: &[usize], from: usize) -> Result<(), AllocError>
         ensures { (p e : ℕ) → OnOk result
             (shows self.new p e ≡ (shows self.old p e || (nat_le from e && is_in p slots.now))) }
@@ -72,19 +73,19 @@ impl Changes {
     }
 }
 
-/// What the steps so far leave for those after them.
+/// What later steps need of the steps so far.
 #[derive(Drop)]
 pub struct Reached {
     /// The changes that they and the start made.
     changes: Changes,
-    /// By thread, one more than the place of the step that gave its next thunk a view, and 0 where the start did.
+    /// By thread, one more than the place of the step that gave its next thunk a view, or 0 if no step did.
     ends: [usize; THREADS],
     /// By thread, whether its last step is reached.
     led: [bool; THREADS],
 }
 
 impl Reached {
-    /// No step yet, where some pages are changed.
+    /// The state before the first step, if some pages are changed.
     fn new(alloc: Global, changed: &[usize]) -> Result<Reached, AllocError>
         ensures led { (t : ℕ) → IfOk result (λ past. led_of past t ≡ false) }
         ensures ends { (t : ℕ) → IfOk result (λ past. end_of past t ≡ 0) }
@@ -100,7 +101,7 @@ impl Reached {
         })
     }
 
-    /// Whether a step is reached that comes next, and reads these pages.
+    /// Whether the next step, which reads these pages, is reached.
     fn reaches(&self, fact: &Fact, reads: &[usize]) -> bool
         requires { fact.now.thread < THREADS }
         ensures { result ≡ (led_of self.now fact.now.thread
@@ -111,7 +112,7 @@ impl Reached {
         self.led[thread] || self.changes.any_shows(reads, self.ends[thread])
     }
 
-    /// A step at a place is past, which is reached or not.
+    /// Adds a step at a place, which is reached or not.
     fn add(&mut self, fact: &Fact, place: usize, reached: bool) -> Result<(), AllocError>
         requires thread { fact.now.thread < THREADS }
         requires few { place < MOST_FACTS }
@@ -128,8 +129,8 @@ impl Reached {
     }
 }
 
-/// The step that gave a view to the next thunks of some threads is the one before place `end`. A number that no thread
-/// has is passed over.
+/// Notes that the step before place `end` gave a view to the next thunks of some threads. Skips a number that no thread
+/// has.
 fn give(ends: &mut [usize; THREADS], threads: &[u8], end: usize)
     ensures given { (t : ℕ) → t < THREADS → is_in t threads.now ≡ true
         → slice_index ends.new t ≡ end }
@@ -143,11 +144,11 @@ fn give(ends: &mut [usize; THREADS], threads: &[u8], end: usize)
     }
 }
 
-/// For each step whether changed pages reach it, by what each step reads. One pass over the steps.
+/// Returns for each step whether changed pages reach it, by what each step reads, in one pass over the steps.
 ///
 /// # Errors
 ///
-/// An error where the host's memory ran out.
+/// An error if the host's memory ran out.
 pub fn reach(
     alloc: Global,
     facts: &[Fact],

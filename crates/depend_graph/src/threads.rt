@@ -50,7 +50,7 @@ impl ThreadClocks {
         self.clocks[usize::from(t)].join(clock);
     }
 
-    /// No clock is joined to that of thread `t` any more.
+    /// Clears the clock of thread `t`: it counts no step.
     pub fn clear(&mut self, t: u8)
         requires { t < THREADS }
         ensures at { (u : ℕ) → slice_index (thread_clock self.new t) u ≡ 0 }
@@ -59,7 +59,7 @@ impl ThreadClocks {
         self.clocks[usize::from(t)] = Clock::zero();
     }
 
-    /// Joins a clock to those of some threads. A number that no thread has is passed over.
+    /// Joins a clock to those of some threads. Skips a number that no thread has.
     pub fn add_each(&mut self, threads: &[u8], clock: &Clock)
         ensures at { (u : ℕ) → u < THREADS → is_in u threads.now ≡ true
             → IsLargerOf (thread_clock self.new u) (thread_clock self.old u) clock.now }

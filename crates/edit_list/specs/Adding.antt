@@ -8,7 +8,7 @@ use Rattle.edit_spec.specs.Grammar.{Line, EncodeAll, is_filled}
 abbrev pub lines_from : ℕ → List (List ℕ) → List Line
 lines_from number pieces = filter (λ line. is_filled line.1) (enumerate_from number pieces)
 
--- the edit of one line was put behind others, if the line isn't empty
+-- the edit of one line was appended to others, if the line isn't empty
 abbrev pub AddsLine : ℕ → List ℕ → List LineEdit → List LineEdit → Type 0
 AddsLine number text before after =
     (added : List LineEdit) × EncodeAll (lines_from number (text ∷ [])) added × (after ≡ before ++ added)

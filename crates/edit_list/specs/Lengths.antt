@@ -8,7 +8,7 @@ abbrev pub new_length : Edit → ℕ → ℕ
 new_length (Set offset bytes) len = len
 new_length (Size size) len = size
 
--- the same, or none where the edit passes its bound
+-- the same, or none if the edit passes its bound
 abbrev pub length_after : Edit → ℕ → Option ℕ
 length_after edit len = if is_out_of_range edit len then None else Some (new_length edit len)
 

@@ -12,13 +12,13 @@ abbrev pub refusal_of : ℕ → Why → Refusal
 refusal_of line BadLine = cause.BadLine line
 refusal_of line OutOfRange = cause.OutOfRange line
 
--- Why the list of a place made nothing of an input: it is refused there, by this line and for this cause; or memory ran
--- out.
+-- Why the list at a place has no result on an input: it is refused there, by this line and for this cause; or memory
+-- ran out.
 abbrev pub WhyNotMade : ℕ → List ℕ → List ℕ → InputsError → Type 0
 WhyNotMade place list input (Refused at line why) = (at ≡ place) × Refuses list input (refusal_of line why)
 WhyNotMade place list input NoMemory = Unit {0}
 
--- Why there are no inputs: the list of this place, from 0 on, is the first that is refused, by this line and for this
+-- Why there are no inputs: the list at this place, from 0 on, is the first that is refused, by this line and for this
 -- cause; or memory ran out.
 abbrev pub WhyNoInputs : List ℕ → List (List ℕ) → InputsError → Type 0
 WhyNoInputs first lists (Refused list line why) = IsFirstRefused first lists list (refusal_of line why)

@@ -1,4 +1,4 @@
--- Why the code gives no answer.
+-- Why the code returns no result.
 use Rattle.std.specs.Prelude.{ℕ, ◌≡◌, ◌<◌, List, length, Err, Some}
 use Rattle.edit_spec.specs.Edit.{LineEdit}
 use Rattle.edit_spec.specs.Grammar.{EncodeBytes, IsEdit, Says}
@@ -32,12 +32,12 @@ abbrev pub WhyNotAdded : ℕ → List ℕ → ParseError → Type 0
 WhyNotAdded number text (BadLine bad) = (bad ≡ number) × (0 < length text) × (IsEdit text → ⊥)
 WhyNotAdded number text NoMemory = Unit {0}
 
--- why edits were not done: the first that passes its bound stands on this line, or memory ran out
+-- why edits were not applied: the first that passes its bound is on this line, or memory ran out
 abbrev pub WhyNotApplied : List LineEdit → List ℕ → ApplyError → Type 0
 WhyNotApplied edits input (OutOfRange number) = edited edits input ≡ Err number
 WhyNotApplied edits input applying.NoMemory = Unit {0}
 
--- why edits give no length: the first that passes its bound stands on this line
+-- why edits give no length: the first that passes its bound is on this line
 abbrev pub WhyNoLength : List LineEdit → ℕ → ApplyError → Type 0
 WhyNoLength edits len (OutOfRange number) = line_out_of_range edits len ≡ Some number
 WhyNoLength edits len applying.NoMemory = ⊥

@@ -1,4 +1,4 @@
-//! Edits done to an input.
+//! Edits applied to an input.
 
 ghost use Rattle.std.specs.Prelude.{ℕ, ◌≡◌, ◌≤◌, ◌<◌, ◌+◌, ◌-◌, ◌++◌, false, List, length, map, min, slice_index_or, take, replicate, Ok, IfOk, IfErr, OnOk, OnErr};
 ghost use Rattle.edit_spec.specs.Edit as said;
@@ -12,7 +12,7 @@ use super::edits::{Edit, Edits, LineEdit};
 use machine_spec::MOST_INPUT_BYTES;
 use std::alloc::{AllocError, Global};
 
-/// Why edits were not done.
+/// Why edits were not applied.
 #[derive(Clone, Copy, PartialEq, Eq)]
 pub enum ApplyError {
     /// The line of this number is the first that passes its bound.
@@ -21,7 +21,7 @@ pub enum ApplyError {
     NoMemory,
 }
 
-/// How long an input of this length is after an edit, or `None` where the edit passes its bound.
+/// How long an input of this length is after an edit, or `None` if the edit passes its bound.
 fn length_after(edit: &Edit, input_length: usize) -> Option<usize>
     ensures { result ≡ length_after (edit_said edit.now) input_length }
 {
@@ -86,7 +86,7 @@ fn leasts_of(alloc: Global, lines: &[LineEdit], most: usize) -> Result<Vec<usize
     Ok(lengths)
 }
 
-/// Writes bytes over those of a buffer from an offset on, as far as they stand below a count.
+/// Writes bytes over those of a buffer from an offset on, as far as they are below a count.
 fn write_below(buffer: &mut [u8], offset: usize, bytes: &[u8], count: usize)
     requires { count ≤ length buffer.old }
     ensures { (input : List ℕ)
@@ -100,8 +100,8 @@ fn write_below(buffer: &mut [u8], offset: usize, bytes: &[u8], count: usize)
     }
 }
 
-/// Does an edit to a buffer that shows the first bytes of an input of this length, as many as the edit and those after
-/// it keep of it, and gives how long the input then is.
+/// Applies an edit to a buffer that has the first bytes of an input of this length, as many as the edit and those after
+/// it keep of it. Returns how long the input then is.
 fn write_edit(edit: &Edit, buffer: &mut [u8], input_length: usize, least: usize) -> usize
     requires { least ≤ length buffer.old }
     ensures length { result ≡ new_length (edit_said edit.now) input_length }
@@ -121,7 +121,7 @@ fn write_edit(edit: &Edit, buffer: &mut [u8], input_length: usize, least: usize)
     }
 }
 
-/// The first of some lengths, or this one where there is none.
+/// The first of some lengths, or this one if there is none.
 fn first_or(lengths: &[usize], most: usize) -> usize
     ensures { result ≡ slice_index_or lengths.now 0 most }
 {
@@ -139,7 +139,7 @@ fn clear_from(buffer: &mut [u8], start: usize)
     buffer[start..].fill(0);
 }
 
-/// Does edits to a buffer as long as the input is after them, which shows the input so far. What a later edit cuts
+/// Applies edits to a buffer that has the input so far, and is as long as the input after them. What a later edit cuts
 /// off is never written, so each byte of an edit is written at most once, and no new length writes anything.
 fn write_edits(lines: &[LineEdit], lengths: &[usize], buffer: &mut [u8], input_length: usize)
     requires last { ComesTo (map line_said lines.now) input_length (length buffer.old) }
@@ -158,14 +158,14 @@ fn write_edits(lines: &[LineEdit], lengths: &[usize], buffer: &mut [u8], input_l
 }
 
 impl Edits {
-    /// Does the edits to an input, one after the other, in time linear in their number, the bytes that they write, and
-    /// the lengths of the input before and after them.
+    /// Applies the edits to an input, one after the other, in time linear in their number, the bytes that they write,
+    /// and the lengths of the input before and after them.
     ///
     /// # Errors
     ///
-    /// `OutOfRange` with the line of the first edit that passes its bound: `set` where it would write past the end
-    /// of the input as the lines before left it, `size` above `MOST_INPUT_BYTES`. Or `NoMemory`. After either the
-    /// input is as before.
+    /// `OutOfRange` with the line of the first edit that passes its bound: a `set` that would write past the end of the
+    /// input after the lines before, or a `size` above `MOST_INPUT_BYTES`. Or `NoMemory`. After either the input is as
+    /// before.
     pub fn apply(&self, input: &mut Vec<u8>) -> Result<(), ApplyError>
         ensures done { OnOk result (edited self.now input.old.items ≡ Ok input.new.items) }
         ensures same { OnErr result (input.new.items ≡ input.old.items) }

@@ -11,7 +11,7 @@ pub(crate) enum Edit {
     Size(u32),
 }
 
-/// An edit, and the number of the line that it stands on.
+/// An edit, and the number of its line.
 #[derive(Drop)]
 pub(crate) struct LineEdit {
     pub(crate) line: usize,

@@ -1,4 +1,4 @@
-//! Edit lists read and done one after the other.
+//! Edit lists read and applied one after the other.
 
 ghost use Rattle.std.specs.Prelude.{◌≡◌, ◌≤◌, length, Ok, IfOk, IfErr};
 ghost use Rattle.std.specs.List.{All};
@@ -15,7 +15,7 @@ use machine_spec::MOST_INPUT_BYTES;
 use std::alloc::Global;
 use std::collections::VecDeque;
 
-/// The edits of the list of this place, done to an input.
+/// Applies the edits of the list at this place to an input, and returns them.
 fn done_to(
     alloc: Global,
     place: usize,
@@ -46,15 +46,15 @@ fn done_to(
     }
 }
 
-/// The inputs of the rounds that edit lists ask for, in order: the first one, and then what each list makes of the
-/// one before. Each list is read whole and then done, before the next one is looked at. All are done here to one
-/// copy of the first input, and only their edits are kept: an input is made when the one before it is taken out.
+/// The inputs of the rounds that edit lists request, in order: the first one, and then the result of each list on the
+/// one before. Each list is read whole and applied before the next one is read. All are applied here to one copy of the
+/// first input, and only their edits are kept: an input is made when the one before it is taken out.
 ///
 /// # Errors
 ///
-/// `Refused` exactly where a list is refused, with the place of the first such list: its line is `BadLine` where it is
-/// the first that encodes no edit, and `OutOfRange` where all lines encode edits and it is the first that passes its
-/// bound on the input before. Or `NoMemory`.
+/// `Refused` exactly if a list is refused, with the place of the first such list, its line and the cause: `BadLine` for
+/// the first line that encodes no edit; or `OutOfRange`, if all lines encode edits, for the first that passes its bound
+/// on the input before. Or `NoMemory`.
 pub fn inputs_of(alloc: Global, first: Vec<u8>, lists: &[Vec<u8>]) -> Result<Inputs, InputsError>
     ensures inputs { IfOk result
         (λ inputs. AreInputs first.items (bytes_of_each lists.now) inputs) }

@@ -1,5 +1,5 @@
-//! Lists of edits of an input, read from their bytes, and done; and the inputs of a line's rounds: each list done to
-//! the input of the round before.
+//! Lists of edits of an input, read from their bytes, and applied; and the inputs of a command line's rounds: each list
+//! is applied to the input of the round before.
 #![tactic(auto)]
 
 mod apply;

@@ -20,7 +20,7 @@ pub enum LineFault {
     NoMemory,
 }
 
-/// The bytes before the first of this value and those after it, where there is one.
+/// The bytes before the first of this value and those after it, if there is one.
 pub fn split_once(bytes: &[u8], byte: u8) -> Option<(&[u8], &[u8])>
     ensures { MatchOption result (All (λ b. (b == byte) ≡ false) bytes.now)
         (λ parts. All (λ b. (b == byte) ≡ false) parts.0.now
@@ -32,7 +32,7 @@ pub fn split_once(bytes: &[u8], byte: u8) -> Option<(&[u8], &[u8])>
     }
 }
 
-/// What follows a word at the start of a text.
+/// The rest of a text that starts with a word.
 fn after_word<'a>(text: &'a [u8], word: &[u8]) -> Option<&'a [u8]>
     ensures { MatchOption result ((rest : List ℕ) → text.now ≢ word.now ++ rest)
         (λ rest. text.now ≡ word.now ++ rest.now) }
@@ -40,7 +40,7 @@ fn after_word<'a>(text: &'a [u8], word: &[u8]) -> Option<&'a [u8]>
     text.strip_prefix(word)
 }
 
-/// What an error of the decoder of hexadecimal digits says of a line.
+/// The fault of a line, by the error of the decoder of hexadecimal digits.
 fn fault_of(error: FromHexError) -> LineFault
     ensures { result ≡ LineFault.Bad → error ≢ FromHexError.OutOfMemory }
 {

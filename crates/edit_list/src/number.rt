@@ -26,7 +26,7 @@ fn is_numeral(text: &[u8]) -> bool
     }
 }
 
-/// The number that digits write.
+/// The number that digits encode.
 fn value_of(digits: &[u8]) -> u32
     requires digits { list_all is_ascii_digit digits.now ≡ true }
     requires few { length digits.now ≤ 7 }
@@ -39,7 +39,7 @@ fn value_of(digits: &[u8]) -> u32
     value
 }
 
-/// The number that a text writes in decimal, with at most seven digits and without leading zeros.
+/// The number that a text encodes in decimal, with at most seven digits and without leading zeros.
 pub fn number_of(text: &[u8]) -> Option<u32>
     ensures { MatchOption result ((n : ℕ) → n < number_limit → text.now ≢ decimal n)
         (λ n. (n < number_limit) × (text.now ≡ decimal n)) }

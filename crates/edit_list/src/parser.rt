@@ -29,7 +29,7 @@ impl<T: Drop> From<AllocFailed<T>> for ParseError {
     }
 }
 
-/// Puts the edit of a line behind the others. An empty line has none.
+/// Appends the edit of a line. An empty line has none.
 fn add_line(
     alloc: Global,
     lines: &mut Vec<LineEdit>,

@@ -12,9 +12,9 @@ use std::marker::Model;
 /// each. A clause sees the list of the inputs.
 #[derive(Drop)]
 pub struct Inputs {
-    /// The next input, or `None` where no more is to come.
+    /// The next input, or `None` if no more is to come.
     pub(crate) input: Option<Vec<u8>>,
-    /// The edits that make those behind it.
+    /// The edits that make those after it.
     pub(crate) later: VecDeque<Edits>,
 }
 
@@ -29,7 +29,7 @@ impl Model for Inputs {
     ghost invariant = { λ inputs. CanBeMade inputs.input inputs.later.items };
 }
 
-/// What edits make of an input, which is copied once.
+/// The result of edits on an input, which is copied once.
 fn apply_edits(input: &Vec<u8>, edits: &Edits) -> Result<Vec<u8>, AllocError>
     requires { (next : List ℕ) × (edited edits.now input.now.items ≡ Ok next) }
     ensures { IfOk result (λ next. edited edits.now input.now.items ≡ Ok next.items) }
@@ -53,11 +53,11 @@ impl Inputs {
         }
     }
 
-    /// The next input, taken out, or `None` where no more is to come. The one behind it is made then.
+    /// Takes out the next input, or returns `None` if no more is to come. The one after it is made then.
     ///
     /// # Errors
     ///
-    /// `AllocError` where the host's memory ran out. The inputs that are to come are then as before.
+    /// `AllocError` if the host's memory ran out. The inputs that are to come are then as before.
     pub fn take_next(&mut self) -> Result<Option<Vec<u8>>, AllocError>
         ensures taken { IfOk result (λ taken. IfSome taken (λ input. self.old
             ≡ input.items ∷ self.new)) }

@@ -6,7 +6,7 @@ pub data Edit : Type 0 where
   Set : ℕ → List ℕ → Edit
   Size : ℕ → Edit
 
--- An edit, with the number of the line that it stands on.
+-- An edit, with the number of its line.
 pub record LineEdit : Type 0 where
   pub line : ℕ
   pub edit : Edit

@@ -3,7 +3,7 @@ use Rattle.std.specs.Prelude.{ℕ, ◌+◌, ◌-◌, Bool, nat_lt, List, [], ◌
 use Rattle.machine_spec.specs.declared.TheConstants.{MOST_INPUT_BYTES}
 use Rattle.edit_spec.specs.Edit.{Edit, Set, Size, LineEdit}
 
--- The most bytes of an input, by its older name.
+-- The most bytes of an input.
 abbrev pub longest_input : ℕ
 longest_input = MOST_INPUT_BYTES
 

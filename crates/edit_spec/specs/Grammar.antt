@@ -39,12 +39,12 @@ IsEdit text = (edit : Edit) × Encodes text edit
 abbrev pub Line : Type 0
 Line = ℕ × List ℕ
 
--- Some byte is there.
+-- Whether there is a byte.
 abbrev pub is_filled : List ℕ → Bool
 is_filled [] = false
 is_filled (byte ∷ bytes) = true
 
--- The lines of a list: the pieces between newline bytes, numbered from 1; empty ones are numbered and left out.
+-- The lines of a list: the pieces between newline bytes, numbered from 1; empty ones are counted and omitted.
 unfoldable pub lines : List ℕ → List Line
 lines bytes = filter (λ line. is_filled line.1) (enumerate_from 1 (slice_split (λ byte. byte == newline) bytes))
 

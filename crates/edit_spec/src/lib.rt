@@ -1,8 +1,8 @@
 //! Lists of edits of an input: their grammar, and what they do.
 //!
-//! This crate holds definitions alone. `specs/` says what the bytes of a list encode, or which line is the first
-//! that encodes nothing, and what edits make of an input. Each public function is a law: its contract is the
-//! statement, and its body does nothing.
+//! This crate holds definitions alone. `specs/` says what the bytes of a list encode, or which line is the first that
+//! encodes none, and what edits make of an input. Each public function is a law: its contract is the statement, and its
+//! body does nothing.
 #![tactic(auto)]
 
 ghost use Rattle.std.specs.Prelude.{ℕ, ◌≡◌, ◌<◌, ◌≤◌, List, [], ◌∷◌, ◌++◌, length, map, Contains, Result};
@@ -37,7 +37,7 @@ pub fn no_edits_change_nothing()
     ensures { (input : List ℕ) → edited [] input ≡ Ok input }
 {}
 
-/// Edits may be done in two parts, the second on what the first made of the input.
+/// Edits may be applied in two parts, the second to what the first made of the input.
 pub fn edits_go_on()
     ensures { (first second : List LineEdit) (input between : List ℕ)
         → edited first input ≡ Ok between

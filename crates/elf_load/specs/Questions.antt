@@ -1,4 +1,4 @@
--- What is asked of each program header in turn, for the refusals that name one.
+-- The questions about each program header in turn, for the refusals that name one.
 use Rattle.std.specs.Prelude.{ℕ, ◌+◌, Bool, ◌&&◌, nat_lt, List, length}
 use Rattle.elf_load.specs.declared.refusals.Question.{Question}
 use Rattle.elf_load.specs.declared.refusals.Question.TheVariants.{ShortTable, Dynamic, ShortSegment, Outside}

@@ -1,11 +1,11 @@
--- The pages that segments touch, as far as they were looked at.
+-- The pages that segments touch, up to a count.
 use Rattle.std.specs.Prelude.{ℕ, ◌≡◌, ◌+◌, ◌<◌, Bool, false, List, filter, get_or, length}
 use Rattle.std.specs.List.{range_with_len, list_any}
 use Rattle.memory_spec.specs.Pages.{Mapped}
 use Rattle.elf_spec.specs.Header.{segments}
 use Rattle.elf_spec.specs.Segments.{touches, page_permission, highest_page}
 
--- Each page up to the highest that a segment touches has a mark, which says whether a segment touches it.
+-- Each page up to the highest that a segment touches has a mark, which is true exactly if a segment touches it.
 pub record MarksTouched (bytes : List ℕ) (marks : List Bool) : Type 0 where
   pub count : length marks ≡ highest_page (segments bytes) + 1
   pub each :

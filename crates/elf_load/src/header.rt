@@ -43,7 +43,7 @@ pub fn header_at(bytes: &[u8], number: u32) -> Header
     }
 }
 
-/// All program headers, in their order; or want of memory.
+/// All program headers, in their order, or an error if the host's memory ran out.
 pub fn headers_of(alloc: Global, bytes: &[u8]) -> Result<Vec<Header>, AllocError>
     ensures { IfOk result (λ headers. map header_of headers.items ≡ program_headers bytes.now) }
 {
@@ -54,7 +54,7 @@ pub fn headers_of(alloc: Global, bytes: &[u8]) -> Result<Vec<Header>, AllocError
     Ok(headers)
 }
 
-/// The program header of a number, of all that were read.
+/// The program header of a number, from all that were read.
 pub fn header_read(bytes: &[u8], headers: &[Header], number: u32) -> Header
     requires headers { map header_of headers.now ≡ program_headers bytes.now }
     requires number { number < e_phnum bytes.now }

@@ -25,7 +25,7 @@ pub fn segments_of(alloc: Global, bytes: &[u8]) -> Result<Vec<Header>, AllocErro
     Ok(found)
 }
 
-/// Puts a header behind the others, if it is a segment's.
+/// Appends a header, if it is a segment's.
 fn push_segment(found: &mut Vec<Header>, header: Header) -> Result<(), AllocError>
     ensures { OnOk result (found.new.items
         ≡ (if segment_header.is_segment (header_of header) then found.old.items ++ header ∷ []
@@ -53,7 +53,7 @@ pub fn segments_on(
     Ok(found)
 }
 
-/// Puts a header behind the others, if it touches the page of a number.
+/// Appends a header, if it touches the page of a number.
 fn push_touching(found: &mut Vec<Header>, header: Header, number: u32) -> Result<(), AllocError>
     ensures { OnOk result (found.new.items
         ≡ (if segment.touches number (header_of header) then found.old.items ++ header ∷ []
@@ -73,7 +73,7 @@ fn offset_on(number: u32, address: u64) -> usize
     address.saturating_sub(start).min(PAGE_SIZE as u64) as usize
 }
 
-/// Where in the file a segment's byte at an address stands; for an address without one, the nearer end of its bytes.
+/// Where in the file a segment's byte at an address is; for an address without one, the nearer end of its bytes.
 fn place_in_file(bytes: &[u8], header: Header, address: u64) -> usize
     ensures { result ≡ place.place_in_file bytes.now (header_of header) address }
 {
@@ -99,7 +99,7 @@ fn part_on(bytes: &[u8], header: Header, number: u32) -> &[u8]
     &bytes[first..end]
 }
 
-/// Whether no segment has bytes of the file on the page of a number: it then is one of zeros.
+/// Whether no segment has bytes of the file on the page of a number: the page is then one of zeros.
 pub fn is_blank(bytes: &[u8], near: &[Header], number: u32) -> bool
     requires { map header_of near.now ≡ filter (segment.touches number) (segments bytes.now) }
     ensures { result ≡ true → image_page bytes.now number ≡ zero_page }
@@ -108,7 +108,7 @@ pub fn is_blank(bytes: &[u8], near: &[Header], number: u32) -> bool
         .all(|header| part_on(bytes, *header, number).is_empty())
 }
 
-/// Writes a segment into the page of a number: its bytes of the file there, and zeros behind them.
+/// Writes a segment into the page of a number: its bytes of the file there, and zeros after them.
 fn write_segment(page: &mut [u8; PAGE_SIZE], bytes: &[u8], header: Header, number: u32)
     ensures { (k : ℕ) → k < segment.page_size
         → slice_index page.new k

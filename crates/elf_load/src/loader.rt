@@ -21,7 +21,7 @@ use page_store::{MappedPage, Page, PageMap, PageTable, Perm};
 use std::alloc::{AllocError, Global};
 use std::sync::Arc;
 
-/// What an executable starts as.
+/// A loaded executable.
 #[derive(Drop)]
 pub struct Image {
     /// The mapped pages, ascending.
@@ -35,9 +35,9 @@ pub struct Image {
 /// Why no image was made.
 #[derive(Clone, Copy)]
 pub enum LoadError {
-    /// The file isn't an executable that is taken, for this reason.
+    /// The file is refused, for this reason.
     Refused(Refusal),
-    /// There was no memory for the image.
+    /// The host's memory ran out.
     NoMemory,
 }
 
@@ -53,7 +53,7 @@ impl From<AllocError> for LoadError {
 ///
 /// # Errors
 ///
-/// `Refused` with the first refusal exactly where the file has one, or `NoMemory`.
+/// `Refused` with the first refusal if the file has one; `NoMemory` if the host's memory ran out.
 pub fn load(alloc: Global, bytes: &[u8]) -> Result<Image, LoadError>
     ensures loaded { IfOk result (λ image. IsImageOf bytes.now image) }
     ensures refused { IfErr result (Refuses bytes.now) }
@@ -69,7 +69,7 @@ pub fn load(alloc: Global, bytes: &[u8]) -> Result<Image, LoadError>
 struct Pages {
     mapped: Vec<MappedPage>,
     table: PageTable,
-    /// A page of zeros, for all places that hold one.
+    /// A page of zeros, which all slots with zeros share.
     zero: Arc<Page>,
 }
 
@@ -107,7 +107,7 @@ fn pages_of(alloc: Global, bytes: &[u8]) -> Result<Pages, AllocError>
     Ok(pages)
 }
 
-/// Puts the page of a number behind the others, if a segment touches it.
+/// Appends the page of a number, if a segment touches it.
 fn add_page(
     alloc: Global,
     pages: &mut Pages,
@@ -142,7 +142,7 @@ fn add_page(
     Ok(())
 }
 
-/// Puts the bytes of the page of a number behind the others; where none is the file's, the page of zeros, shared.
+/// Appends the bytes of the page of a number; if none is from the file, the shared page of zeros.
 fn push_bytes(
     table: &mut PageTable,
     zero: &Arc<Page>,
@@ -161,9 +161,10 @@ fn push_bytes(
     }
 }
 
-/// Puts the bytes of the page of a number behind the others, on a page of its own.
+/// Appends the bytes of the page of a number, on a page of its own.
 ///
-/// It stands apart, since a function clears its variables at its start, also where it goes another way: here a page.
+/// It is a function of its own, since a function clears its variables, here a page, at its start, even if it doesn't
+/// use them.
 fn push_filled(
     table: &mut PageTable,
     bytes: &[u8],

@@ -84,7 +84,7 @@ fn mark_segment(marks: &mut [bool], header: Header)
     }
 }
 
-/// Marks the pages that all segments touch, where no page has a mark yet.
+/// Marks the pages that the segments touch. No page has a mark before.
 fn mark_all(marks: &mut [bool], bytes: &[u8])
     requires { (k : ℕ) → k < length marks.old → get_or marks.old k false ≡ false }
     ensures same { length marks.new ≡ length marks.old }
@@ -96,7 +96,8 @@ fn mark_all(marks: &mut [bool], bytes: &[u8])
     }
 }
 
-/// For each page up to the highest that a segment touches, whether one touches it; or want of memory.
+/// For each page up to the highest that a segment touches, whether one touches it, or an error if the host's memory ran
+/// out.
 pub fn touched_pages(alloc: Global, bytes: &[u8]) -> Result<Vec<bool>, AllocError>
     ensures { IfOk result (λ marks. MarksTouched bytes.now marks.items) }
 {
@@ -128,7 +129,7 @@ pub fn page_count(bytes: &[u8], marks: &[bool]) -> u32
     count
 }
 
-/// One more where a test holds.
+/// One more than a count if a test holds.
 fn count_with(count: u32, test: bool) -> u32
     requires { count < 2 ^ 22 }
     ensures { result ≡ (if test then count + 1 else count) }

@@ -21,7 +21,7 @@ use std::alloc::{AllocError, Global};
 /// ELF's magic number.
 const MAGIC: [u8; 4] = [0x7f, b'E', b'L', b'F'];
 
-/// This refusal where the test holds.
+/// This refusal if the test holds.
 fn refuse_if(test: bool, refusal: Refusal) -> Option<Refusal>
     ensures { result ≡ row.refuse_if test refusal }
 {
@@ -38,7 +38,7 @@ fn not_elf(bytes: &[u8]) -> Option<Refusal>
     refuse_if(&bytes[..4] != MAGIC.as_slice(), Refusal::NotElf)
 }
 
-/// Whether the file isn't of 32 bits with the lowest byte first.
+/// Whether the file isn't of 32 bits, with the lowest byte first, and of ELF version 1.
 fn not_elf32(bytes: &[u8]) -> Option<Refusal>
     ensures { result ≡ row.not_elf32 bytes.now }
 {
@@ -60,7 +60,7 @@ fn not_riscv(bytes: &[u8]) -> Option<Refusal>
     refuse_if(half_word_at(bytes, 18) != 243, Refusal::NotRiscv)
 }
 
-/// Whether the file asks for compressed instructions.
+/// Whether the file requires compressed instructions.
 fn compressed(bytes: &[u8]) -> Option<Refusal>
     ensures { result ≡ row.compressed bytes.now }
 {
@@ -77,7 +77,7 @@ fn entry_size(bytes: &[u8]) -> Option<Refusal>
     )
 }
 
-/// What is asked of each program header in turn.
+/// A question about each program header in turn.
 #[derive(Clone, Copy)]
 pub enum Question {
     /// Whether the file ends before the header's end.
@@ -86,7 +86,7 @@ pub enum Question {
     Dynamic,
     /// Whether it is loadable, and its bytes aren't all there.
     ShortSegment,
-    /// Whether it is of a segment that leaves the addresses for images.
+    /// Whether it is of a segment that isn't inside the addresses for images.
     Outside,
 }
 
@@ -120,7 +120,7 @@ fn is_short(bytes: &[u8], header: Header) -> bool
         | (header.memsz < header.filesz)
 }
 
-/// Whether a segment leaves the addresses for images.
+/// Whether a segment isn't inside the addresses for images.
 fn is_outside(header: Header) -> bool
     ensures { result ≡ row.is_outside (header_of header) }
 {
@@ -140,7 +140,7 @@ fn first_header(bytes: &[u8], question: Question) -> Option<u32>
     None
 }
 
-/// The refusal of the first header of which a question holds.
+/// The first header before whose end the file ends.
 fn short_table(bytes: &[u8]) -> Option<Refusal>
     ensures { result ≡ row.short_table bytes.now }
 {
@@ -170,7 +170,7 @@ fn short_segment(bytes: &[u8]) -> Option<Refusal>
     }
 }
 
-/// The first segment that leaves the addresses for images.
+/// The first segment that isn't inside the addresses for images.
 fn outside(bytes: &[u8]) -> Option<Refusal>
     ensures { result ≡ row.outside bytes.now }
 {
@@ -189,7 +189,7 @@ fn overlaps(one: Header, other: Header) -> bool
     is_segment(one) & is_segment(other) & (starts_before_end & ends_after_start)
 }
 
-/// The first header from a number on that shares an address with an earlier one.
+/// The first header from a number on whose segment shares an address with that of the header `earlier`.
 fn overlap_from(bytes: &[u8], headers: &[Header], earlier: u32, from: u32) -> Option<u32>
     requires headers { map header_of headers.now ≡ program_headers bytes.now }
     requires earlier { earlier < e_phnum bytes.now }
@@ -237,7 +237,7 @@ fn entry_page(bytes: &[u8]) -> u32
     word_at(bytes, 24) / PAGE_SIZE as u32
 }
 
-/// Whether no instruction can stand at the entry point, whose page these segments touch.
+/// Whether no instruction can be at the entry point, whose page these segments touch.
 fn entry_refusal(bytes: &[u8], near: &[Header]) -> Option<Refusal>
     requires { map header_of near.now
         ≡ filter (segment.touches (e_entry bytes.now / segment.page_size)) (segments bytes.now) }
@@ -299,7 +299,7 @@ fn table_refusal(bytes: &[u8], headers: &[Header]) -> Option<Refusal>
     overlap(bytes, headers)
 }
 
-/// The first refusal of the pages' rows, or want of memory.
+/// The first refusal of the pages' rows, or an error if the host's memory ran out.
 fn page_refusal(alloc: Global, bytes: &[u8]) -> Result<Option<Refusal>, AllocError>
     ensures { IfOk result (λ refusal. refusal ≡ row.first_given (page_rows bytes.now)) }
 {
@@ -314,7 +314,7 @@ fn page_refusal(alloc: Global, bytes: &[u8]) -> Result<Option<Refusal>, AllocErr
     Ok(entry_refusal(bytes, near.as_slice()))
 }
 
-/// The first refusal of a file, or none where it is accepted; or want of memory.
+/// The first refusal of a file, or none if it is accepted. An error if the host's memory ran out.
 pub fn refusal(alloc: Global, bytes: &[u8]) -> Result<Option<Refusal>, AllocError>
     ensures { IfOk result (λ refusal. refusal ≡ row.refusal_of bytes.now) }
 {

@@ -1,4 +1,4 @@
--- The numbers that stand in a file, at an offset. Past the file's end there are zeros.
+-- The numbers in a file, at an offset. Past the file's end there are zeros.
 use Rattle.std.specs.Prelude.{ℕ, List, drop}
 use Rattle.std.specs.Int.{from_le_bytes, w16, w32}
 

@@ -18,8 +18,8 @@ image_pages bytes =
     map (λ number. record { number = number; permission = page_permission (segments bytes) number })
     (page_numbers (segments bytes))
 
--- the file's byte at the segment's address, or zero past the segment's bytes in the file (System V gABI, ch. 5, Program
--- Header)
+-- the file's byte for an address of a segment, or zero past the segment's bytes in the file or without a segment
+-- (System V gABI, ch. 5, Program Header)
 abbrev pub segment_byte : List ℕ → Option ProgramHeader → ℕ → ℕ
 segment_byte bytes None address = 0
 segment_byte bytes (Some segment) address =
@@ -27,7 +27,7 @@ segment_byte bytes (Some segment) address =
     then slice_index bytes (segment.offset + (address - segment.vaddr))
     else 0
 
--- the byte of an image at an address: that of the segment which has the address, and else zero (System V gABI, ch. 5,
+-- the byte of an image at an address: that of the first segment that has the address, else zero (System V gABI, ch. 5,
 -- Program Loading)
 unfoldable pub image_byte : List ℕ → ℕ → ℕ
 image_byte bytes address = segment_byte bytes (find (λ segment. has_address segment address) (segments bytes)) address

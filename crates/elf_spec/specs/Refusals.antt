@@ -8,7 +8,7 @@ use Rattle.elf_spec.specs.declared.Refusal.TheVariants.{NotElf, NotElf32, NotExe
 use Rattle.elf_spec.specs.Header.{header_size, program_header_size, magic, ei_class, ei_data, ei_version, e_type, e_machine, e_entry, e_flags, e_phentsize, e_phnum, ProgramHeader, program_header, program_header_offset, is_load, is_dynamic, is_segment, segments}
 use Rattle.elf_spec.specs.Segments.{page_size, shares_address, page_numbers, page_permission}
 
--- this refusal where the test holds, and else none
+-- this refusal if the test holds, else none
 abbrev pub refuse_if : Bool → Refusal → Option Refusal
 refuse_if true refusal = Some refusal
 refuse_if false refusal = None
@@ -38,7 +38,7 @@ not_exec bytes = refuse_if (not (e_type bytes == 2)) NotExec
 abbrev pub not_riscv : List ℕ → Option Refusal
 not_riscv bytes = refuse_if (not (e_machine bytes == 243)) NotRiscv
 
--- compressed instructions are asked for, by EF_RISCV_RVC (RISC-V ELF psABI, File Header)
+-- compressed instructions are requested, by EF_RISCV_RVC (RISC-V ELF psABI, File Header)
 abbrev pub compressed : List ℕ → Option Refusal
 compressed bytes = refuse_if (bit_at (e_flags bytes) 0 == 1) Compressed
 
@@ -66,11 +66,11 @@ short_segment bytes =
     option_map ShortSegment
     (first_header bytes (λ i. is_load (program_header bytes i) && is_short bytes (program_header bytes i)))
 
--- the segment leaves the addresses for images
+-- the segment isn't inside the addresses for images
 abbrev pub is_outside : ProgramHeader → Bool
 is_outside segment = nat_lt segment.vaddr IMAGE_START || nat_lt IMAGE_END (segment.vaddr + segment.memsz)
 
--- a segment that leaves the addresses for images
+-- a segment that isn't inside the addresses for images
 abbrev pub outside : List ℕ → Option Refusal
 outside bytes =
     option_map Outside
@@ -99,7 +99,7 @@ too_many_pages bytes = refuse_if (nat_lt 1024 (page_count bytes)) (TooManyPages 
 abbrev pub is_executable : List ℕ → ℕ → Bool
 is_executable bytes address = bit_at (page_permission (segments bytes) (address / page_size)) 0 == 1
 
--- no instruction can stand at the entry point (RISC-V unprivileged ISA 20191213, 2.2)
+-- no instruction can be at the entry point (RISC-V unprivileged ISA 20191213, 2.2)
 abbrev pub entry_refusal : List ℕ → Option Refusal
 entry_refusal bytes = refuse_if (not (e_entry bytes % 4 == 0 && is_executable bytes (e_entry bytes))) Entry
 
@@ -116,6 +116,6 @@ first_given [] = None
 first_given (None ∷ rest) = first_given rest
 first_given (Some refusal ∷ rest) = Some refusal
 
--- the refusal of a file, or none where it is accepted
+-- the refusal of a file, or none if it is accepted
 unfoldable pub refusal_of : List ℕ → Option Refusal
 refusal_of bytes = first_given (refusals bytes)

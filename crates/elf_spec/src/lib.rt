@@ -16,13 +16,13 @@ ghost use Rattle.elf_spec.specs.Image.{image_pages, image_memory, entry_of, is_i
 pub const MOST_ELF_BYTES: usize = 16_777_216;
 /// The first address that an image may have: page 0 is never mapped.
 pub const IMAGE_START: u32 = 0x1000;
-/// The address that ends those for images.
+/// The end of the addresses for images.
 pub const IMAGE_END: u32 = 0xC000_0000;
 
 /// Why a file isn't taken as an executable.
 ///
-/// Program headers are numbered from 0, and sums are exact. Where several conditions hold, the first in the
-/// order below is the answer, at its least number (of a pair the least first number, then the least second).
+/// Program headers are numbered from 0, and sums are exact. If several conditions hold, the first in the order below is
+/// the answer, at its least number (of a pair the least first number, then the least second).
 #[derive(Clone, Copy, Debug, PartialEq, Eq)]
 pub enum Refusal {
     /// The file has fewer than 52 bytes, or doesn't begin with ELF's magic number.
@@ -33,7 +33,7 @@ pub enum Refusal {
     NotExec,
     /// The machine isn't 243, RISC-V.
     NotRiscv,
-    /// The flags ask for compressed instructions.
+    /// The flags request compressed instructions.
     Compressed,
     /// There are program headers, and their size isn't 32.
     EntrySize,
@@ -58,7 +58,7 @@ pub fn pages_ascend(bytes: &[u8])
     ensures { IsStrictlyIncreasing (map (λ p. p.number) (image_pages bytes.now)) }
 {}
 
-/// A page is there exactly where a segment has an address on it.
+/// A page is there exactly if a segment has an address on it.
 pub fn pages_are_the_touched(bytes: &[u8])
     ensures { (n : ℕ)
         → (Contains (map (λ p. p.number) (image_pages bytes.now)) n

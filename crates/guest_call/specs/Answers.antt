@@ -1,7 +1,7 @@
 -- The negative answers of the calls. The names are those of POSIX.1-2017, <errno.h>; the numbers are Linux's.
 use Rattle.std.specs.Prelude.{ℕ, ◌-◌, ◌^◌}
 
--- the answer that tells an error: its number negated, as a word of 32 bits
+-- the answer for an error: its number negated, as a word of 32 bits
 abbrev pub negated : ℕ → ℕ
 negated number = 2 ^ 32 - number
 

@@ -4,17 +4,17 @@ use Rattle.guest_call.specs.Answers.{answer_eperm, answer_einval}
 use Rattle.guest_call.specs.Effect.{Effect, Returns, Blocks, answers, wakes}
 use Rattle.guest_call.specs.Mutexes.{Mutex, owns, owned_by, waited_for, handed_over}
 
--- the mutex with which threads wait for a condition, or last did, and who waits, the first to come first (POSIX.1-2017,
--- pthread_cond_wait)
+-- the mutex with which threads wait for a condition, or last did, and the threads that wait, the first to come first
+-- (POSIX.1-2017, pthread_cond_wait)
 pub record Condition : Type 0 where
   pub mutex : ℕ
   pub queue : List ℕ
 
--- a condition as it is at the start: nobody waits for it (POSIX.1-2017, pthread_cond_init)
+-- a condition as it is at the start: no thread waits for it (POSIX.1-2017, pthread_cond_init)
 abbrev pub unawaited : Condition
 unawaited = record { mutex = 0; queue = [] }
 
--- who waits for a condition (POSIX.1-2017, pthread_cond_wait)
+-- the threads that wait for a condition (POSIX.1-2017, pthread_cond_wait)
 abbrev pub condition_queue : Condition → List ℕ
 condition_queue c = c.queue
 
@@ -22,15 +22,15 @@ condition_queue c = c.queue
 abbrev pub awaited_by : ℕ → ℕ → Condition → Condition
 awaited_by t m c = record { mutex = m; queue = c.queue ++ t ∷ [] }
 
--- cond_wait with mutex m, called by t: who isn't the owner is refused, and so is another mutex than that of those who
--- wait; else t waits, and the mutex is handed over as in unlock (POSIX.1-2017, pthread_cond_wait)
+-- cond_wait with mutex m, called by t: it is refused if t isn't the owner, or if threads wait with another mutex; else
+-- t waits, and the mutex is handed over as in unlock (POSIX.1-2017, pthread_cond_wait)
 abbrev pub cond_wait_row : ℕ → ℕ → Condition → Mutex → Effect × Condition × Mutex
 cond_wait_row t m c x =
     if not (owns x.owner t) then (answers answer_eperm, c, x)
     else if not (length c.queue == 0) && not (c.mutex == m) then (answers answer_einval, c, x)
     else (wakes Blocks (handed_over x.queue).0, awaited_by t m c, (handed_over x.queue).1)
 
--- who leaves a condition: the threads, and the condition without them (POSIX.1-2017, pthread_cond_signal)
+-- threads that leave a condition, and the condition without them (POSIX.1-2017, pthread_cond_signal)
 pub record Leaving : Type 0 where
   pub threads : List ℕ
   pub rest : Condition
@@ -40,16 +40,17 @@ abbrev pub first_leaves : ℕ → List ℕ → Leaving
 first_leaves m [] = record { threads = []; rest = record { mutex = m; queue = [] } }
 first_leaves m (u ∷ rest) = record { threads = u ∷ []; rest = record { mutex = m; queue = rest } }
 
--- who leaves by a signal (POSIX.1-2017, pthread_cond_signal)
+-- the thread that leaves by a signal, if there is one, and the condition without it (POSIX.1-2017, pthread_cond_signal)
 abbrev pub signal_leaving : Condition → Leaving
 signal_leaving c = first_leaves c.mutex c.queue
 
--- a broadcast lets all leave (POSIX.1-2017, pthread_cond_broadcast)
+-- all leave by a broadcast (POSIX.1-2017, pthread_cond_broadcast)
 abbrev pub broadcast_leaving : Condition → Leaving
 broadcast_leaving c = record { threads = c.queue; rest = record { mutex = c.mutex; queue = [] } }
 
--- a thread that left a condition comes to its mutex: a free one becomes its own, and its call returns; else it waits at
--- the end of the queue. Who has the mutex now, if it is this thread, and the mutex (POSIX.1-2017, pthread_cond_signal)
+-- a thread that left a condition comes to its mutex: it becomes the owner of a free one, and its call returns; else it
+-- waits at the end of the queue. The result is the thread, if it has the mutex now, and the mutex (POSIX.1-2017,
+-- pthread_cond_signal)
 abbrev pub admit : ℕ → Mutex → List ℕ × Mutex
 admit u x = if is_none x.owner then (u ∷ [], owned_by u x) else ([], waited_for u x)
 

@@ -3,8 +3,8 @@ use Rattle.std.specs.Prelude.{ℕ, ◌==◌, List, [], Option, Some, None, if◌
 pub use Rattle.guest_call.specs.declared.Fate.{Fate}
 pub use Rattle.guest_call.specs.declared.Fate.TheVariants.{Returns, Blocks, Ends, Exits}
 
--- what becomes of the caller; who is woken, in order, each with 0 in a0; what the woken are told in a1;
--- and the first pc and the argument of a thread that is created
+-- what becomes of the caller; the threads that are woken, in order, each with 0 in a0; what they get in a1, if
+-- anything; and the first pc and the argument of a thread that is created
 pub record Effect : Type 0 where
   pub fate : Fate
   pub woken : List ℕ
@@ -34,8 +34,8 @@ waiting Blocks = 1
 waiting (Ends v) = 0
 waiting (Exits code) = 0
 
--- the value with which a thread has ended after the caller t met its fate, from what it was before (POSIX.1-2017,
--- pthread_exit)
+-- the value with which thread u has ended, if it has, after a call of t with this fate, from what it was before
+-- (POSIX.1-2017, pthread_exit)
 abbrev pub ended_after : ℕ → Fate → ℕ → Option ℕ → Option ℕ
 ended_after t (Returns a b) u before = before
 ended_after t Blocks u before = before

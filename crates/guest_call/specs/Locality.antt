@@ -12,7 +12,7 @@ use Rattle.guest_call.specs.RwLocks.{RwLock, unheld}
 use Rattle.guest_call.specs.Threads.{Member}
 use Rattle.guest_call.specs.Objects.{Objects, IsKept}
 
--- how an object stands: an object of its kind, the table of threads, or nothing, for the output, which the machine
+-- the state of an object: an object of its kind, the table of threads, or nothing, for the output, which the machine
 -- keeps
 pub data Part : Type 0 where
   MutexPart : Mutex → Part
@@ -23,7 +23,7 @@ pub data Part : Type 0 where
   ThreadsPart : List Member → Part
   NoPart : Part
 
--- how the named object stands
+-- the state of the named object
 abbrev pub part_of : Objects → Object → Part
 part_of o Output = NoPart
 part_of o ThreadTable = ThreadsPart o.threads
@@ -48,12 +48,12 @@ same_object _ _ = false
 abbrev pub is_among : Object → List Object → Bool
 is_among p objects = list_any (λ q. same_object p q) objects
 
--- some objects stand alike here and there
+-- some objects have the same state here and there
 abbrev pub Agree : List Object → Objects → Objects → Type 0
 Agree objects o other = (p : Object) → is_among p objects ≡ true → part_of other p ≡ part_of o p
 
--- a change of the objects, at o, is local to those that it names: all others stay, and where these stand alike it
--- names the same, has the same effect and leaves them alike
+-- a change of the objects, at o, is local to those that it names: all others keep their state; and on any objects among
+-- which these have the same state, it names the same, has the same effect, and gives these the same state
 pub record IsLocalBy (change : Objects → Effect × Objects) (objects : Objects → List Object)
     (o : Objects) : Type 0 where
   pub stays : (p : Object) → is_among p (objects o) ≡ false → part_of (change o).1 p ≡ part_of o p

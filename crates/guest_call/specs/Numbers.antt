@@ -8,7 +8,7 @@ pub record Numbered : Type 0 where
   pub number : ℕ
   pub call : ℕ → ℕ → Call
 
--- the calls by number (each call's POSIX function stands at `Call`)
+-- the calls by number (each call's POSIX function is given at `Call`)
 abbrev pub call_table : List Numbered
 call_table =
     record { number = 0; call = λ a0 a1. Exit a0 }
@@ -35,7 +35,7 @@ call_table =
     ∷ (record { number = 21; call = λ a0 a1. TryWrLock a0 }
     ∷ [])))))))))))))))))))))
 
--- the call that a7, a0 and a1 make, or None where the table has no such number: a bad call
+-- the call that a7, a0 and a1 make, or None if the table has no such number: a bad call
 abbrev pub call_of : ℕ → ℕ → ℕ → Option Call
 call_of a7 a0 a1 =
     option_map (λ (line : Numbered). line.call a0 a1) (find (λ (line : Numbered). line.number == a7) call_table)

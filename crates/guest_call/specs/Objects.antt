@@ -38,11 +38,11 @@ all_unposted = replicate OBJECTS unposted
 unfoldable pub all_uninitialised : List Barrier
 all_uninitialised = replicate OBJECTS uninitialised
 
--- 64 conditions for which nobody waits
+-- 64 conditions for which no thread waits
 unfoldable pub all_unawaited : List Condition
 all_unawaited = replicate OBJECTS unawaited
 
--- 64 reader-writer locks that nobody holds
+-- 64 reader-writer locks that no thread holds
 unfoldable pub all_unheld : List RwLock
 all_unheld = replicate OBJECTS unheld
 
@@ -92,7 +92,8 @@ on_pair row o c m =
     let r = row (condition_at o c) (mutex_at o m) in
     (r.0, record o { mutexes = slice_set o.mutexes m r.2; conditions = slice_set o.conditions c r.1 })
 
--- who leaves the condition of number c comes to the mutex with which it waited (POSIX.1-2017, pthread_cond_broadcast)
+-- the threads that leave the condition of number c come to the mutex with which they waited (POSIX.1-2017,
+-- pthread_cond_broadcast)
 abbrev pub leave : (Condition → Leaving) → Objects → ℕ → Effect × Objects
 leave leaving o c = checked (nat_lt c OBJECTS) o (on_pair (leave_row leaving) o c (condition_at o c).mutex)
 
@@ -100,7 +101,7 @@ leave leaving o c = checked (nat_lt c OBJECTS) o (on_pair (leave_row leaving) o 
 abbrev pub can_read : (ℕ → ℕ → Bool) → ℕ → ℕ → Bool
 can_read readable p n = nat_le (p + n) (2 ^ 32) && readable p n
 
--- what put answers: how many bytes it has appended, or why it has not (POSIX.1-2017, write)
+-- the answer of put: how many bytes it has appended, or why it has not (POSIX.1-2017, write)
 abbrev pub put_answer : (ℕ → ℕ → Bool) → ℕ → ℕ → ℕ
 put_answer readable p n =
     if nat_lt 4096 n then answer_einval
@@ -112,8 +113,8 @@ put_answer readable p n =
 abbrev pub appends : (ℕ → ℕ → Bool) → ℕ → ℕ → Bool
 appends readable p n = not (nat_lt 4096 n) && not (n == 0) && can_read readable p n
 
--- what a call of thread t does to the threads and to the objects, where `readable p n` says whether t may read the n
--- bytes from p
+-- what a call of thread t does to the threads and to the objects; `readable p n` says whether t may read the n bytes
+-- from p
 abbrev pub act : (ℕ → ℕ → Bool) → Objects → ℕ → Call → Effect × Objects
 act readable o t (Exit code) = (exits code, o)
 act readable o t (Put p n) = (answers (put_answer readable p n), o)
@@ -138,21 +139,21 @@ act readable o t (WrLock r) = on_rwlock (wrlock_row t) o r
 act readable o t (RwUnlock r) = on_rwlock (rwunlock_row t) o r
 act readable o t (TryWrLock r) = on_rwlock (trywrlock_row t) o r
 
--- the object where a test holds, and else none
+-- the object if a test holds, else none
 abbrev pub one_of : Bool → Object → List Object
 one_of test p = if test then p ∷ [] else []
 
--- the mutex of a condition for which somebody waits
+-- the mutex of a condition, if a thread waits for it
 abbrev pub waited_mutex : Condition → List Object
 waited_mutex c = one_of (not (length c.queue == 0)) (object.Mutex c.mutex)
 
--- the objects on which a condition's waiters come and go: the condition, and its mutex if somebody waits
+-- the objects on which a condition's waiters come and go: the condition, and its mutex if a thread waits
 abbrev pub leave_objects : Objects → ℕ → List Object
 leave_objects o c = if nat_lt c OBJECTS then object.Condition c ∷ waited_mutex (condition_at o c) else []
 
--- the objects on which a call acts: put on the output, where it appends; thread_exit and join on the threads; exit and
--- yield on none; signal and broadcast on a mutex too, if a thread leaves; all others on the objects that they name,
--- where the arguments are in range
+-- the objects on which a call acts: put on the output, if it appends; thread_exit and join on the threads, and so does
+-- create if its pc is a multiple of 4; exit and yield on none; signal and broadcast on a mutex too, if a thread leaves;
+-- all others on the objects that they name, if the arguments are in range
 abbrev pub acts_on : (ℕ → ℕ → Bool) → Objects → Call → List Object
 acts_on readable o (Exit code) = []
 acts_on readable o (Put p n) = one_of (appends readable p n) object.Output

@@ -11,7 +11,7 @@ pub record Waiter : Type 0 where
   pub thread : ℕ
   pub writes : Bool
 
--- the writer of a lock, if there is one, whether each thread is a reader, and who waits, the first to come first
+-- the writer of a lock, if there is one, whether each thread is a reader, and the waiters, the first to come first
 -- (POSIX.1-2017, pthread_rwlock_rdlock)
 pub record RwLock : Type 0 where
   pub writer : Option ℕ
@@ -22,11 +22,11 @@ pub record RwLock : Type 0 where
 unfoldable pub no_readers : List Bool
 no_readers = replicate THREADS false
 
--- a lock as it is at the start: nobody holds it, and nobody waits (POSIX.1-2017, pthread_rwlock_init)
+-- a lock as it is at the start: no thread holds it, and none waits (POSIX.1-2017, pthread_rwlock_init)
 abbrev pub unheld : RwLock
 unheld = record { writer = None; readers = no_readers; queue = [] }
 
--- the threads of those who wait
+-- the threads of some waiters
 abbrev pub threads_of : List Waiter → List ℕ
 threads_of queue = map (λ (w : Waiter). w.thread) queue
 
@@ -42,11 +42,11 @@ reads c t = slice_index_or c.readers t false
 abbrev pub holds : RwLock → ℕ → Bool
 holds c t = owns c.writer t || reads c t
 
--- whether anybody is a reader
+-- whether any thread is a reader
 abbrev pub is_read : RwLock → Bool
 is_read c = list_any (λ reader. reader) c.readers
 
--- whether anybody holds the lock
+-- whether any thread holds the lock
 abbrev pub is_held : RwLock → Bool
 is_held c = is_some c.writer || is_read c
 
@@ -71,8 +71,8 @@ let_go t c =
       queue = c.queue;
     }
 
--- rdlock, called by t: its own is refused; t becomes a reader where there is no writer and nobody waits; else it waits
--- to read (POSIX.1-2017, pthread_rwlock_rdlock)
+-- rdlock, called by t: refused if t holds the lock; t becomes a reader if there is no writer and no thread waits; else
+-- it waits to read (POSIX.1-2017, pthread_rwlock_rdlock)
 abbrev pub rdlock_row : ℕ → RwLock → Effect × RwLock
 rdlock_row t c =
     if owns c.writer t then (answers answer_edeadlk, c)
@@ -80,7 +80,7 @@ rdlock_row t c =
     else if is_none c.writer && length c.queue == 0 then (answers 0, read_by t c)
     else (blocks, awaited (record { thread = t; writes = false }) c)
 
--- wrlock, called by t: its own is refused; t becomes the writer where nobody holds the lock; else it waits to write
+-- wrlock, called by t: refused if t holds the lock; t becomes the writer if no thread holds it; else it waits to write
 -- (POSIX.1-2017, pthread_rwlock_wrlock)
 abbrev pub wrlock_row : ℕ → RwLock → Effect × RwLock
 wrlock_row t c =
@@ -88,17 +88,17 @@ wrlock_row t c =
     else if is_held c then (blocks, awaited (record { thread = t; writes = true }) c)
     else (answers 0, written_by t c)
 
--- trywrlock, called by t: t becomes the writer where nobody holds the lock; else it is refused (POSIX.1-2017,
+-- trywrlock, called by t: t becomes the writer if no thread holds the lock; else it is refused (POSIX.1-2017,
 -- pthread_rwlock_trywrlock)
 abbrev pub trywrlock_row : ℕ → RwLock → Effect × RwLock
 trywrlock_row t c = if is_held c then (answers answer_ebusy, c) else (answers 0, written_by t c)
 
--- who waits to read, before the first who wants to write
+-- the threads of the waiters before the first that wants to write
 abbrev pub first_readers : List Waiter → List ℕ
 first_readers [] = []
 first_readers (w ∷ rest) = if w.writes then [] else w.thread ∷ first_readers rest
 
--- who waits from the first who wants to write on
+-- the waiters from the first that wants to write on
 abbrev pub from_first_writer : List Waiter → List Waiter
 from_first_writer [] = []
 from_first_writer (w ∷ rest) = if w.writes then w ∷ rest else from_first_writer rest
@@ -108,8 +108,8 @@ abbrev pub joined_by_each : List ℕ → List Bool → List Bool
 joined_by_each [] readers = readers
 joined_by_each (u ∷ rest) readers = joined_by_each rest (slice_set readers u true)
 
--- where no writer holds a lock, who waits to read before the first who wants to write becomes a reader: these threads,
--- and the lock (POSIX.1-2017, pthread_rwlock_unlock)
+-- if no writer holds a lock, the waiters before the first that wants to write become readers: these threads, and the
+-- lock (POSIX.1-2017, pthread_rwlock_unlock)
 abbrev pub readers_admitted : RwLock → List ℕ × RwLock
 readers_admitted c =
     if is_some c.writer then ([], c)
@@ -122,24 +122,24 @@ readers_admitted c =
       },
     )
 
--- the first who waits becomes the writer of a lock that nobody holds: this thread, if there is one, and the lock
+-- the first waiter becomes the writer of a lock that no thread holds: this thread, if there is one, and the lock
 abbrev pub first_writes : List Bool → List Waiter → List ℕ × RwLock
 first_writes readers [] = ([], record { writer = None; readers = readers; queue = [] })
 first_writes readers (w ∷ rest) =
     (w.thread ∷ [], record { writer = Some w.thread; readers = readers; queue = rest })
 
--- where nobody holds a lock, the first who waits becomes its writer: this thread, if there is one, and the lock
+-- if no thread holds a lock, the first waiter becomes its writer: this thread, if there is one, and the lock
 -- (POSIX.1-2017, pthread_rwlock_unlock)
 abbrev pub writer_admitted : RwLock → List ℕ × RwLock
 writer_admitted c = if is_held c then ([], c) else first_writes c.readers c.queue
 
--- who gets a lock of those who wait, and the lock after that: readers from the front, or else the first writer
--- (POSIX.1-2017, pthread_rwlock_unlock)
+-- the waiters that get a lock, and the lock after that: readers from the front, or else the first writer (POSIX.1-2017,
+-- pthread_rwlock_unlock)
 abbrev pub handed_on : RwLock → List ℕ × RwLock
 handed_on c = let readers = readers_admitted c in let writer = writer_admitted readers.1 in (readers.0 ++ writer.0, writer.1)
 
--- rwunlock, called by t: who doesn't hold the lock is refused; else t lets go, and the lock is handed on (POSIX.1-2017,
--- pthread_rwlock_unlock)
+-- rwunlock, called by t: refused if t doesn't hold the lock; else t releases it, and the lock is handed on
+-- (POSIX.1-2017, pthread_rwlock_unlock)
 abbrev pub rwunlock_row : ℕ → RwLock → Effect × RwLock
 rwunlock_row t c =
     if holds c t then (wakes (Returns 0 None) (handed_on (let_go t c)).0, (handed_on (let_go t c)).1)

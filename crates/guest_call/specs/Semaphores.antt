@@ -1,15 +1,15 @@
--- Semaphores that count, and hand a post over to who has waited longest.
+-- Semaphores that count, and hand a post over to the thread that has waited longest.
 use Rattle.std.specs.Prelude.{ℕ, ◌+◌, ◌-◌, ◌==◌, nat_lt, nat_le, List, [], ◌∷◌, ◌++◌, length, None, if◌then◌else◌}
 use Rattle.guest_call.specs.Answers.{answer_eagain, answer_ebusy, answer_eoverflow}
 use Rattle.guest_call.specs.Effect.{Effect, Returns, answers, blocks, wakes}
 use Rattle.guest_call.specs.Tables.{at_cell, checked}
 
--- the value of a semaphore, and who waits for a post, the first to come first (POSIX.1-2017, sem_wait)
+-- the value of a semaphore, and the threads that wait for a post, the first to come first (POSIX.1-2017, sem_wait)
 pub record Semaphore : Type 0 where
   pub value : ℕ
   pub queue : List ℕ
 
--- a semaphore as it is at the start: its value is 0, and nobody waits
+-- a semaphore as it is at the start: its value is 0, and no thread waits
 abbrev pub unposted : Semaphore
 unposted = record { value = 0; queue = [] }
 
@@ -17,7 +17,7 @@ unposted = record { value = 0; queue = [] }
 abbrev pub largest_value : ℕ
 largest_value = 2147483647
 
--- who waits for a semaphore (POSIX.1-2017, sem_wait)
+-- the threads that wait for a semaphore (POSIX.1-2017, sem_wait)
 abbrev pub semaphore_queue : Semaphore → List ℕ
 semaphore_queue c = c.queue
 
@@ -36,7 +36,7 @@ sem_wait_row t c =
 abbrev pub sem_trywait_row : Semaphore → Effect × Semaphore
 sem_trywait_row c = if nat_lt 0 c.value then (answers 0, valued (c.value - 1) c) else (answers answer_eagain, c)
 
--- a post at a value for which these wait: the first returns, and the value stays; with nobody waiting it goes up by
+-- a post at a value for which these wait: the first returns, and the value stays; with no thread waiting it goes up by
 -- one, unless it is the largest (POSIX.1-2017, sem_post), first in, first out
 abbrev pub posted : ℕ → List ℕ → Effect × Semaphore
 posted n [] =
@@ -48,7 +48,7 @@ posted n (u ∷ rest) = (wakes (Returns 0 None) (u ∷ []), record { value = n; 
 abbrev pub sem_post_row : Semaphore → Effect × Semaphore
 sem_post_row c = posted c.value c.queue
 
--- sem_init with a value in range: refused while somebody waits; else the value is n (POSIX.1-2017, sem_init)
+-- sem_init with a value in range: refused while a thread waits; else the value is n (POSIX.1-2017, sem_init)
 abbrev pub sem_init_row : ℕ → Semaphore → Effect × Semaphore
 sem_init_row n c = if length c.queue == 0 then (answers 0, valued n c) else (answers answer_ebusy, c)
 

@@ -6,7 +6,7 @@ use Rattle.guest_call.specs.Answers.{answer_einval}
 use Rattle.guest_call.specs.Effect.{Effect, answers}
 use Rattle.guest_call.specs.Queues.{places, waits, Keeps}
 
--- what a call does where its arguments are in range; else it is refused, and nothing changes
+-- what a call does if its arguments are in range; else it is refused, and nothing changes
 abbrev pub checked : {S : Type 0} → Bool → S → Effect × S → Effect × S
 checked in_range state done = if in_range then done else (answers answer_einval, state)
 
@@ -23,6 +23,6 @@ pub record IsTable {C : Type 0} (queue : C → List ℕ) (cells : List C) : Type
   pub low : (t : ℕ) → THREADS ≤ t → waits queue cells t ≡ 0
   pub once : (t : ℕ) → waits queue cells t ≤ 1
 
--- what a row of thread t did to an object lost nobody of its queue and doubled nobody
+-- a row of thread t on an object loses and doubles no thread of its queue
 abbrev pub IsFair : {C : Type 0} → (C → List ℕ) → ℕ → C → Effect × C → Type 0
 IsFair queue t c r = Keeps (λ u. places u (queue c)) t r.0 (λ u. places u (queue r.1))

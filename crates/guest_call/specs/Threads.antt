@@ -1,25 +1,25 @@
--- The table of threads: who has ended with which value, and who joins whom.
+-- The table of threads: which have ended, with which value, and which thread joins which.
 use Rattle.std.specs.Prelude.{ℕ, ◌%◌, ◌==◌, List, [], ◌∷◌, ◌++◌, length, Option, Some, None, is_some, not, nat_lt, option_to_list, slice_index_or, slice_set, if◌then◌else◌}
 use Rattle.guest_call.specs.declared.thread_number.TheConstants.{THREADS}
 use Rattle.guest_call.specs.Answers.{answer_esrch, answer_eagain, answer_einval, answer_edeadlk}
 use Rattle.guest_call.specs.Effect.{Effect, Returns, Ends, answers, blocks, wakes}
 
--- a thread of the table: who joins it or has joined it, which is never forgotten, and its value once it has ended
--- (POSIX.1-2017, pthread_join)
+-- a thread of the table: the thread that joins it or has joined it, which is never forgotten, and its value once it has
+-- ended (POSIX.1-2017, pthread_join)
 pub record Member : Type 0 where
   pub joiner : Option ℕ
   pub value : Option ℕ
 
--- a thread as it is created: nobody joins it, and it has not ended (POSIX.1-2017, pthread_create)
+-- a thread as it is created: no thread joins it, and it has not ended (POSIX.1-2017, pthread_create)
 abbrev pub fresh : Member
 fresh = record { joiner = None; value = None }
 
--- who waits for a thread: its joiner, as long as it has no value (POSIX.1-2017, pthread_join)
+-- the thread that waits for a thread: its joiner, as long as it has no value (POSIX.1-2017, pthread_join)
 abbrev pub waiting_joiner : Option ℕ → Option ℕ → List ℕ
 waiting_joiner None joiner = option_to_list joiner
 waiting_joiner (Some v) joiner = []
 
--- who waits for the thread to end (POSIX.1-2017, pthread_join)
+-- the thread that waits for a thread to end, if there is one (POSIX.1-2017, pthread_join)
 abbrev pub member_queue : Member → List ℕ
 member_queue c = waiting_joiner c.value c.joiner
 
@@ -44,14 +44,14 @@ create_row pc argument members =
 abbrev pub ended_with : ℕ → Member → Member
 ended_with v c = record { joiner = c.joiner; value = Some v }
 
--- thread_exit, called by t: t ends, and who waits to join it is told the value (POSIX.1-2017, pthread_exit)
+-- thread_exit, called by t: t ends, and the thread that waits to join it gets the value (POSIX.1-2017, pthread_exit)
 abbrev pub thread_exit_row : ℕ → ℕ → List Member → Effect × List Member
 thread_exit_row t v members = (
   record { fate = Ends v; woken = member_queue (member_at members t); told = Some v; created = None },
   slice_set members t (ended_with v (member_at members t)),
 )
 
--- what a join meets: the value of a thread that has ended, or else a wait (POSIX.1-2017, pthread_join)
+-- the effect of a join: it returns the value of a thread that has ended, or else waits (POSIX.1-2017, pthread_join)
 abbrev pub joins : Option ℕ → Effect
 joins (Some v) = wakes (Returns 0 (Some v)) []
 joins None = blocks

@@ -36,8 +36,8 @@ pub const EOVERFLOW: u32 = 0xFFFF_FFB5;
 /// The answer for EDEADLK (POSIX.1-2017, `<errno.h>`): the caller would wait for itself.
 pub const EDEADLK: u32 = 0xFFFF_FFDD;
 
-/// An environment call with its arguments, as the guest makes it by ECALL: the number stands in a7, the
-/// first argument in a0 and the second in a1.
+/// An environment call with its arguments, as the guest makes it by ECALL: the number is in a7, the first argument in
+/// a0 and the second in a1.
 #[derive(Clone, Copy)]
 pub enum Call {
     /// 0, `exit(code)`: ends the run, as `exit` of POSIX ends a process, with the whole of a0.
@@ -48,7 +48,7 @@ pub enum Call {
     Create(u32, u32),
     /// 3, `thread_exit(value)`: ends the calling thread, as `pthread_exit`.
     ThreadExit(u32),
-    /// 4, `join(thread)`: waits until a thread has ended and tells its value, as `pthread_join`.
+    /// 4, `join(thread)`: waits until a thread has ended and returns its value, as `pthread_join`.
     Join(u32),
     /// 5, `yield()`: does nothing, as `sched_yield` may.
     Yield,
@@ -68,27 +68,27 @@ pub enum Call {
     SemInit(u32, u32),
     /// 13, `barrier_init(barrier, count)`: as `pthread_barrier_init`.
     BarrierInit(u32, u32),
-    /// 14, `barrier_wait(barrier)`: as `pthread_barrier_wait`; who comes last gets 1, the others 0.
+    /// 14, `barrier_wait(barrier)`: as `pthread_barrier_wait`; the thread that comes last gets 1, the others 0.
     BarrierWait(u32),
     /// 15, `cond_wait(condition, mutex)`: as `pthread_cond_wait`, without spurious wake-ups.
     CondWait(u32, u32),
-    /// 16, `signal(condition)`: as `pthread_cond_signal`, for who has waited longest.
+    /// 16, `signal(condition)`: as `pthread_cond_signal`, for the thread that has waited longest.
     Signal(u32),
     /// 17, `broadcast(condition)`: as `pthread_cond_broadcast`, in the order in which they came.
     Broadcast(u32),
-    /// 18, `rdlock(lock)`: as `pthread_rwlock_rdlock`, behind all who wait; a thread has one read lock of it at most.
+    /// 18, `rdlock(lock)`: as `pthread_rwlock_rdlock`, behind all waiters; a thread has one read lock of it at most.
     RdLock(u32),
     /// 19, `wrlock(lock)`: as `pthread_rwlock_wrlock`.
     WrLock(u32),
-    /// 20, `rwunlock(lock)`: as `pthread_rwlock_unlock`, by who holds the lock.
+    /// 20, `rwunlock(lock)`: as `pthread_rwlock_unlock`, by a thread that holds the lock.
     RwUnlock(u32),
     /// 21, `trywrlock(lock)`: as `pthread_rwlock_trywrlock`.
     TryWrLock(u32),
 }
 
 impl Call {
-    /// The call that an ECALL makes with this number in a7 and these words in a0 and a1. None exactly where the number
-    /// is above 21: a bad call, which is a trap of the guest.
+    /// The call that an ECALL makes with this number in a7 and these words in a0 and a1. None exactly if the number is
+    /// above 21: a bad call, which is a trap of the guest.
     pub fn of(a7: u32, a0: u32, a1: u32) -> Option<Call>
         ensures { result ≡ call_of a7 a0 a1 }
     {
@@ -123,9 +123,9 @@ impl Call {
 /// What a call can act on, as the dependence of steps sees it.
 #[derive(Clone, Copy, PartialEq, Eq)]
 pub enum Object {
-    /// The bytes that the guest has put out.
+    /// The output so far.
     Output,
-    /// The table of threads, with who joins whom.
+    /// The table of threads, with which thread joins which.
     ThreadTable,
     /// The mutex of this number.
     Mutex(u32),
@@ -142,7 +142,7 @@ pub enum Object {
 /// What becomes of the thread that makes a call.
 #[derive(Clone, Copy, PartialEq, Eq)]
 pub enum Fate {
-    /// The call returns at once: what it leaves in a0, and in a1 where it changes that too.
+    /// The call returns at once, with this value in a0, and this one in a1 if it changes a1 too.
     Returns(u32, Option<u32>),
     /// The thread waits in a queue.
     Blocks,
@@ -152,28 +152,28 @@ pub enum Fate {
     Exits(u32),
 }
 
-/// Nobody is lost and nobody doubled by a call: who waits after it or was woken by it waited before or
-/// began to wait.
+/// No thread is lost or doubled by a call: each that waits after it or was woken by it waited before or began to wait.
 pub fn act_keeps()
     ensures { (readable : ℕ → ℕ → Bool) (o : Objects) (t : ℕ) (call : Call) → IsKept o →
         t < length o.threads →
         Keeps (waits_at o) t (act readable o t call).0 (waits_at (act readable o t call).1) }
 {}
 
-/// A call keeps what holds of the objects, where its caller is a thread that waits nowhere.
+/// A call keeps what holds of the objects, if its caller is a thread that waits nowhere.
 pub fn act_kept()
     ensures { (readable : ℕ → ℕ → Bool) (o : Objects) (t : ℕ) (call : Call) → IsKept o →
         t < length o.threads → waits_at o t ≡ 0 → IsKept (act readable o t call).1 }
 {}
 
-/// A call makes one thread more exactly where it says that one is created, and else none.
+/// A call makes one thread more if its effect creates one, else none.
 pub fn act_creates()
     ensures { (readable : ℕ → ℕ → Bool) (o : Objects) (t : ℕ) (call : Call) →
         length (act readable o t call).1.threads
         ≡ length o.threads + created_count (act readable o t call).0.created }
 {}
 
-/// Who has ended after a call: who had ended before, and the caller where the call ends it.
+/// The threads that have ended after a call, and their values: those that had ended before, and the caller if the call
+/// ends it.
 pub fn act_ended()
     ensures { (readable : ℕ → ℕ → Bool) (o : Objects) (t : ℕ) (call : Call) → t < length o.threads →
         (u : ℕ) →
@@ -181,14 +181,14 @@ pub fn act_ended()
         ≡ ended_after t (act readable o t call).0.fate u (ended_at o u) }
 {}
 
-/// A call reads and changes nothing but the objects on which it acts: all others stay as they are, and
-/// what it names, answers and makes of its own depends on these alone.
+/// A call reads and changes nothing but the objects on which it acts: all others stay as they are; and the objects that
+/// it acts on, its effect, and the new state of these objects depend on these alone.
 pub fn act_is_local()
     ensures { (readable : ℕ → ℕ → Bool) (o : Objects) (t : ℕ) (call : Call) → IsKept o →
         IsLocalBy (λ x. act readable x t call) (λ x. acts_on readable x call) o }
 {}
 
-/// Where put appends its bytes it answers how many they are.
+/// If put appends its bytes, it returns how many they are.
 pub fn put_appends()
     ensures { (readable : ℕ → ℕ → Bool) (p n : ℕ) → appends readable p n ≡ true →
         put_answer readable p n ≡ n }

@@ -37,7 +37,7 @@ impl Default for Thread {
 }
 
 impl Thread {
-    /// The thread of this number. None exactly where the number is above 31.
+    /// The thread of this number. None exactly if the number is above 31.
     pub fn new(number: u8) -> Option<Thread>
         ensures { result ≡ if nat_lt number THREADS then Some number else None }
     {

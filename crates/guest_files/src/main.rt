@@ -1,5 +1,5 @@
 //! Writes each small guest of `worked_guests` on a line of standard output: its name, and the bytes of its executable
-//! in hexadecimal digits. What it must write was made by another assembler.
+//! in hexadecimal digits. The expected output was made by another assembler.
 #![tactic(auto)]
 
 use std::alloc::Global;

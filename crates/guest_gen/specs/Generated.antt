@@ -16,7 +16,7 @@ use Rattle.guest_gen.specs.declared.making.Generated.{Generated}
 abbrev pub value_after : ℕ → ℕ
 value_after value = (value * 1664525 + 1013904223) % 2 ^ 32
 
--- So many values behind a value, each made of the one before it.
+-- `count` values after a value, each computed from the one before it.
 unfoldable pub values_after : ℕ → ℕ → List ℕ
 values_after zero value = []
 values_after (suc count) value = value_after value ∷ values_after count (value_after value)
@@ -25,7 +25,7 @@ values_after (suc count) value = value_after value ∷ values_after count (value
 abbrev pub highest_byte : ℕ → ℕ
 highest_byte value = value / 2 ^ 24
 
--- The input of a number: of each of the values behind the number the highest byte.
+-- The input of a number: the highest byte of each of the values after the number.
 abbrev pub input_of : ℕ → List ℕ
 input_of number = map highest_byte (values_after INPUT_BYTES number)
 
@@ -40,7 +40,7 @@ byte_of number = (slice_index (input_of number) (place_of number) + 1) % 256
 abbrev pub edit_of : ℕ → Edit
 edit_of number = Set (place_of number) (byte_of number ∷ [])
 
--- The list of edits that has it, as its bytes, and as what they say.
+-- The list with this edit, as its bytes, and as what they say.
 abbrev pub list_of : ℕ → List ℕ
 list_of number = codes "set " ++ (decimal (place_of number) ++ space ∷ encode_lower (byte_of number ∷ []))
 

@@ -5,11 +5,11 @@ use isa_spec::{
 };
 use rv_asm::Item;
 
-/// Where the guest stands.
+/// The address of the guest.
 pub const BASE: u32 = 0x1_0000;
 
-/// How many bytes of zeros follow the guest's items, up to the end of its second page. The total stands on that page,
-/// at 0x11000.
+/// How many bytes of zeros follow the guest's items, up to the end of its second page. The total is on that page, at
+/// 0x11000.
 pub const ZEROS: u32 = 8192 - 228;
 
 // Registers by their names in the RISC-V ELF psABI, Integer Register Convention.
@@ -103,7 +103,7 @@ macro_rules! store {
     };
 }
 
-/// `bne rs1, rs2, imm`, by so many instructions back.
+/// `bne rs1, rs2, imm`: branches back by this number of instructions.
 macro_rules! back_where_not_equal {
     ($rs1:ident, $rs2:ident, $count:literal) => {
         Item::Instruction(Instr::Branch {
@@ -122,10 +122,10 @@ macro_rules! ecall {
     };
 }
 
-/// The guest, instruction by instruction. Its first thread begins at the first of them, and makes the others begin at
-/// the offset 0x5c.
+/// The guest, instruction by instruction. Its first thread begins at the first of them, and creates the others at the
+/// offset 0x5c.
 pub const ITEMS: [Item; 57] = [
-    // Eight threads are made: create(base + 0x5c, s0), for s0 from 0 to 7.
+    // Eight threads are created: create(base + 0x5c, s0), for s0 from 0 to 7.
     addi!(S0, ZERO, 0),
     lui!(A0, 0x10),
     addi!(A0, A0, 0x5c),
@@ -143,7 +143,7 @@ pub const ITEMS: [Item; 57] = [
     addi!(S0, S0, 1),
     addi!(T0, ZERO, 9),
     back_where_not_equal!(S0, T0, 5),
-    // The total is put out: put(0x11000, 4).
+    // The total is output: put(0x11000, 4).
     lui!(A0, 0x11),
     addi!(A1, ZERO, 4),
     addi!(A7, ZERO, 1),

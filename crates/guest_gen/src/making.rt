@@ -41,7 +41,7 @@ fn input_of(alloc: Global, number: u32) -> Result<Vec<u8>, AllocError>
     Ok(input)
 }
 
-/// The list of edits of a number, whose input this is.
+/// The list of edits of a number, which has this input.
 fn list_of(alloc: Global, number: u32, input: &[u8]) -> Result<Vec<u8>, AllocError>
     requires { input.now ≡ input_of number }
     ensures { IfOk result (λ list. list.items ≡ list_of number) }
@@ -60,7 +60,7 @@ fn list_of(alloc: Global, number: u32, input: &[u8]) -> Result<Vec<u8>, AllocErr
 ///
 /// # Errors
 ///
-/// An error where the host's memory ran out.
+/// An error if the host's memory ran out.
 pub fn make(alloc: Global, number: u32) -> Result<Generated, AllocError>
     ensures { IfOk result (λ g. IsOf number g) }
 {

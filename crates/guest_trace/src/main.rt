@@ -1,19 +1,19 @@
-//! Runs a guest under a schedule, and says what each step does: as `strace` does of a process, for a run of threads.
+//! Runs a guest under a schedule, and prints what each step of its threads does, as `strace` does for a process.
 //!
-//! Its words are `ELF INPUT SCHEDULE`, and behind them `--fuel F` and `--steps S`. SCHEDULE is a file of thread numbers
-//! from 0 to 31 between spaces and newlines; each may have a mark `=` or `+` behind it, and the word `schedule` may
-//! stand before them all, so that a report's line can be taken as it is. The guest is run from scratch, with these
-//! limits or those that `ithreads run` has by itself.
+//! Its arguments are `ELF INPUT SCHEDULE`, then optionally `--fuel F` and `--steps S`. SCHEDULE is a file of thread
+//! numbers from 0 to 31, separated by spaces and newlines. A mark `=` or `+` may follow each number, and the word
+//! `schedule` may precede them all, so that the line of a report can be used as it is. The guest is run from scratch,
+//! with these limits or the default limits of `ithreads run`.
 //!
-//! It prints a line for each step: its place in the schedule, the thread, which step of the thread it is, how many
-//! instructions it made, the call that ended it with its arguments, and what came of it: the answer, or that the thread
-//! waits and for what; who is woken with which answer; who begins. Then it prints how the run ended, and of a deadlock
-//! who waits for what, and who holds it.
+//! It prints a line for each step: its place in the schedule, the thread, which step of the thread it is, its count of
+//! instructions, the call that ended it with its arguments, and the effect of the call: the answer, or what the thread
+//! waits for; which threads are woken with which answer; and where a created thread begins. Then it prints how the run
+//! ended, and for a deadlock what each thread waits for and which threads hold it.
 //!
-//! The status is 0 where the run was traced to its end. Else one line on standard error says what is wrong and where:
-//! 2 for the words, 3 for an executable that isn't taken, 6 for a file that can't be read, 7 for want of an output, 8
-//! for want of memory, 9 for a file that is too large, and 10 for a schedule with a bad token, with an entry that isn't
-//! permitted, or without an end after its last entry.
+//! The status is 0 if the run was traced to its end. Otherwise one line on standard error says what is wrong and where.
+//! The status is then 2 for wrong arguments, 3 for an executable that isn't taken, 6 for a file that can't be read, 7
+//! for an output that can't be written, 8 if memory ran out, 9 for a file that is too large, and 10 for a schedule with
+//! a bad token, with an entry that isn't permitted, or without an end after its last entry.
 #![tactic(auto)]
 
 ghost use Rattle.std.specs.Prelude.{◌≡◌, ◌≤◌, ◌<◌, length, IfOk};
@@ -41,13 +41,13 @@ use std::thread::Threads;
 use std::{env, io};
 use tracing::trace;
 
-/// The most turns of a thunk.
+/// The most turns of a thunk, by default.
 const FUEL: u32 = 1_000_000;
 
-/// The most steps of a run.
+/// The most steps of a run, by default.
 const STEPS: u32 = 4096;
 
-/// Reads the file that a word names.
+/// Reads the file that an argument names.
 fn read_file<H: Host>(
     alloc: Global,
     host: &mut H,
@@ -67,14 +67,15 @@ fn read_file<H: Host>(
     }
 }
 
-/// What a run starts from, and its schedule.
+/// The setup of a run, and its schedule.
 #[derive(Drop)]
 struct Asked {
     setup: Setup,
     schedule: Vec<u8>,
 }
 
-/// The fuel and the step limit after the option at a place: those of before, if no words stand there.
+/// The fuel and the step limit after the option at a place, unchanged if there is no option; none if it isn't an option
+/// with a number.
 fn after_option(words: &[String], place: usize, fuel: u32, steps: u32) -> Option<(u32, u32)> {
     if words.len() <= place {
         return Some((fuel, steps));
@@ -92,7 +93,7 @@ fn after_option(words: &[String], place: usize, fuel: u32, steps: u32) -> Option
     }
 }
 
-/// The limits that the words behind the three names ask for.
+/// The limits that the arguments after the three names request.
 fn limits_of(words: &[String]) -> Option<Limits> {
     if words.len() > 8 {
         return None;
@@ -102,7 +103,7 @@ fn limits_of(words: &[String]) -> Option<Limits> {
     Limits::new(fuel, steps)
 }
 
-/// Reads what the words name. They are the program's name and three more, and then options.
+/// Reads what the arguments name. They are the program's name and three more, and then options.
 fn wanted<H: Host>(alloc: Global, host: &mut H, words: &[String]) -> Result<Asked, Refusal> {
     if words.len() < 4 {
         return Err(Refusal::Words);
@@ -122,7 +123,7 @@ fn wanted<H: Host>(alloc: Global, host: &mut H, words: &[String]) -> Result<Aske
     Ok(Asked { setup, schedule })
 }
 
-/// Traces the run that the words name.
+/// Traces the run that the arguments name.
 fn answer<R: Threads + Files + Print + Eprint>(
     rt: &R,
     alloc: Global,
@@ -142,7 +143,7 @@ fn answer<R: Threads + Files + Print + Eprint>(
     traced
 }
 
-/// The words of the command line.
+/// The arguments of the command line, from the program's name on.
 fn words_of(alloc: Global, rt: &HostRuntime) -> Result<Vec<String>, Refusal> {
     match env::args(rt) {
         Ok(args) => match args.collect(alloc) {

@@ -23,15 +23,15 @@ pub enum Why {
 /// Why a run isn't traced to its end.
 #[derive(Clone, Copy)]
 pub enum Refusal {
-    /// The words aren't three names, with options behind them.
+    /// The arguments aren't three names and then options.
     Words,
-    /// The file that this word names can't be read.
+    /// The file that this argument names can't be read.
     Unread(usize),
-    /// The file that this word names is too large.
+    /// The file that this argument names is too large.
     TooLarge(usize),
     /// The executable isn't taken.
     Image(ImageRefusal),
-    /// This token is no number of a thread.
+    /// This token isn't a thread number.
     Token(usize),
     /// This entry isn't permitted.
     Forbidden(usize, u8, Why),
@@ -39,7 +39,7 @@ pub enum Refusal {
     Incomplete,
     /// The output can't be written.
     Output,
-    /// There is no memory.
+    /// The host's memory ran out.
     NoMemory,
 }
 
@@ -82,7 +82,7 @@ impl fmt::Display for Why {
     }
 }
 
-/// The word at a place, or none.
+/// The argument at a place, or an empty text if there is none.
 fn word_at(words: &[String], place: usize) -> &str {
     if place < words.len() {
         words[place].as_str()
@@ -105,7 +105,7 @@ impl Refusal {
         }
     }
 
-    /// Says it on standard error, in one line, and gives the exit status.
+    /// Reports it on standard error, in one line, and returns the exit status.
     pub fn told<R: Eprint>(self, rt: &R, words: &[String]) -> ExitCode {
         let _ = match self {
             Refusal::Words => eprintln!(rt;

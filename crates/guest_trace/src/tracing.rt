@@ -13,7 +13,7 @@ use std::io;
 use std::io::Write;
 use sync_objects::Effect;
 
-/// Writes who holds a reader-writer lock.
+/// Writes which threads hold a reader-writer lock.
 fn write_holders<W: Write>(out: &mut W, waits: &Waits, lock: u32) -> io::Result<()> {
     let mut before = ", held by";
     for thread in 0..THREADS as u8 {
@@ -25,7 +25,7 @@ fn write_holders<W: Write>(out: &mut W, waits: &Waits, lock: u32) -> io::Result<
     Ok(())
 }
 
-/// Writes what a thread waits for, and who holds it.
+/// Writes what a thread waits for, and which threads hold it.
 fn write_wait<W: Write>(out: &mut W, waits: &Waits, thread: u8) -> io::Result<()> {
     let Some(wait) = waits.wait_of(thread) else {
         return Ok(());
@@ -60,7 +60,7 @@ fn write_fate<W: Write>(out: &mut W, waits: &Waits, thread: u8, fate: Fate) -> i
     }
 }
 
-/// Writes who is woken with which answer, and who begins.
+/// Writes which threads are woken with which answer, and where a created thread begins.
 fn write_others<W: Write>(out: &mut W, effect: &Effect) -> io::Result<()> {
     let woken = effect.woken();
     for i in 0..woken.len() {
@@ -75,7 +75,7 @@ fn write_others<W: Write>(out: &mut W, effect: &Effect) -> io::Result<()> {
     Ok(())
 }
 
-/// Writes what a step's thunk asked for, and what came of it.
+/// Writes how a step's thunk ended, and the effect of its call.
 fn write_made<W: Write>(
     out: &mut W,
     waits: &Waits,
@@ -103,7 +103,7 @@ fn write_made<W: Write>(
     writeln!(out)
 }
 
-/// Notes what a step's call tells of mutexes and waits.
+/// Notes what a step's call does to mutexes, reader-writer locks and waits.
 fn note(waits: &mut Waits, thread: u8, made: &StepResult) {
     if let Asked::Asks(call) = made.asked {
         if let Some(effect) = &made.effect {
@@ -112,7 +112,7 @@ fn note(waits: &mut Waits, thread: u8, made: &StepResult) {
     }
 }
 
-/// Writes how the run ended, as a report has it.
+/// Writes how the run ended, as in a report.
 fn write_end<W: Write>(out: &mut W, end: End) -> io::Result<()> {
     match end {
         End::Exit(code) => writeln!(out, "end exit {code}"),
@@ -125,7 +125,7 @@ fn write_end<W: Write>(out: &mut W, end: End) -> io::Result<()> {
     }
 }
 
-/// Writes who waits for what.
+/// Writes what each blocked thread waits for.
 fn write_waits<W: Write>(out: &mut W, machine: &PlainMachine, waits: &Waits) -> io::Result<()> {
     for place in 0..machine.threads() {
         let thread = place as u8;
@@ -138,7 +138,7 @@ fn write_waits<W: Write>(out: &mut W, machine: &PlainMachine, waits: &Waits) -> 
     Ok(())
 }
 
-/// Why a thread may not make a step, or how many it has made.
+/// Why a thread may not make a step, or how many steps it has made.
 fn number_of(machine: &PlainMachine, thread: u8) -> Result<u32, Why> {
     if machine.ended().is_some() {
         return Err(Why::Ended);
@@ -153,13 +153,13 @@ fn number_of(machine: &PlainMachine, thread: u8) -> Result<u32, Why> {
     }
 }
 
-/// Runs a setup from scratch under a schedule, and writes a line for each step, then how the run ended, and of a
-/// deadlock who waits for what.
+/// Runs a setup from scratch under a schedule. Writes a line for each step, then how the run ended, and for a deadlock
+/// what each thread waits for.
 ///
 /// # Errors
 ///
-/// The first entry that isn't permitted, or that no end comes after the last; the lines of the steps before it were
-/// written. Or a fault of the output, or want of memory.
+/// The first entry that isn't permitted, or that no end comes after the last one; the lines of the steps before it are
+/// written. Or that the output can't be written, or that the host's memory ran out.
 pub fn trace<W: Write>(
     alloc: Global,
     out: &mut W,

@@ -1,4 +1,5 @@
-//! Who holds which mutex and which reader-writer lock, and who waits for what, as the calls so far tell.
+//! Which thread owns each mutex, which threads hold each reader-writer lock, and what each thread waits for, by the
+//! calls so far.
 
 use guest_call::{Call, Fate, OBJECTS, THREADS};
 use std::fmt;
@@ -42,7 +43,7 @@ impl fmt::Display for Wait {
 /// Which threads hold a reader-writer lock, by their numbers.
 type Holders = [bool; THREADS];
 
-/// Who owns each mutex and who holds each reader-writer lock, and what each thread waits for.
+/// The owner of each mutex, the holders of each reader-writer lock, and what each thread waits for.
 #[derive(Drop)]
 pub struct Waits {
     owners: [Option<u8>; OBJECTS],
@@ -52,7 +53,7 @@ pub struct Waits {
 }
 
 impl Waits {
-    /// Nobody owns a mutex or holds a lock, and nobody waits.
+    /// No thread owns a mutex, holds a lock or waits.
     pub fn none() -> Waits {
         Waits {
             owners: [None; OBJECTS],
@@ -72,7 +73,7 @@ impl Waits {
         }
     }
 
-    /// Who owns a mutex.
+    /// The owner of a mutex, if it has one.
     pub fn owner(&self, mutex: u32) -> Option<u8> {
         let place = mutex as usize;
         if place < OBJECTS {
@@ -82,7 +83,7 @@ impl Waits {
         }
     }
 
-    /// A mutex has another owner, or none.
+    /// Sets the owner of a mutex, or that it has none.
     fn set_owner(&mut self, mutex: u32, owner: Option<u8>) {
         let place = mutex as usize;
         if place < OBJECTS {
@@ -96,7 +97,7 @@ impl Waits {
         place < OBJECTS && holder < THREADS && self.holders[place][holder]
     }
 
-    /// A thread holds a reader-writer lock from now on, or no longer.
+    /// Sets whether a thread holds a reader-writer lock.
     fn set_holder(&mut self, lock: u32, thread: u8, holds: bool) {
         let (place, holder) = (lock as usize, usize::from(thread));
         if place < OBJECTS && holder < THREADS {
@@ -104,7 +105,7 @@ impl Waits {
         }
     }
 
-    /// A thread waits for something, or for nothing.
+    /// Sets what a thread waits for, or that it waits for nothing.
     fn set_wait(&mut self, thread: u8, wait: Option<Wait>) {
         let place = usize::from(thread);
         if place < THREADS {
@@ -128,7 +129,7 @@ impl Waits {
         }
     }
 
-    /// The thread that has waited longest for a condition waits for its mutex from now on.
+    /// Makes the thread that has waited longest for a condition wait for its mutex.
     fn signal(&mut self, condition: u32) {
         if let Some((place, mutex)) = self.longest(condition) {
             if place < THREADS {
@@ -137,7 +138,7 @@ impl Waits {
         }
     }
 
-    /// All who wait for a condition wait for its mutex from now on.
+    /// Makes all threads that wait for a condition wait for their mutexes.
     fn broadcast(&mut self, condition: u32) {
         for place in 0..THREADS {
             if let Some(Wait::Condition(here, mutex, _)) = self.waits[place] {
@@ -148,7 +149,7 @@ impl Waits {
         }
     }
 
-    /// What a thread whose call blocks waits for.
+    /// What a thread waits for if this call blocks.
     fn begin(&mut self, call: Call) -> Option<Wait> {
         match call {
             Call::Lock(mutex) => Some(Wait::Mutex(mutex)),
@@ -167,7 +168,7 @@ impl Waits {
         }
     }
 
-    /// A call returned to its caller with 0.
+    /// Notes that a call returned 0 to its caller.
     fn done(&mut self, thread: u8, call: Call) {
         match call {
             Call::Lock(mutex) | Call::TryLock(mutex) => self.set_owner(mutex, Some(thread)),
@@ -182,7 +183,7 @@ impl Waits {
         }
     }
 
-    /// A thread is woken: the mutex that it waited for is its own now, or it holds the lock.
+    /// Wakes a thread: it owns the mutex that it waited for, or holds the lock.
     fn wake(&mut self, thread: u8) {
         match self.wait_of(thread) {
             Some(Wait::Mutex(mutex)) => self.set_owner(mutex, Some(thread)),
@@ -192,7 +193,7 @@ impl Waits {
         self.set_wait(thread, None);
     }
 
-    /// A call of a thread had this effect.
+    /// Notes the effect of a thread's call.
     pub fn note(&mut self, thread: u8, call: Call, effect: &Effect) {
         match effect.fate() {
             Fate::Returns(0, _) => self.done(thread, call),

@@ -26,7 +26,7 @@ fn is_word(text: &str) -> bool
     text.len() == 8 && are_word_digits(text.as_bytes())
 }
 
-/// The word that a text writes, or `None` where it is not eight digits.
+/// The word that a text encodes, or `None` if it is not eight digits.
 #[tactic(auto, using(crate::proofs::Numerals::parsed))]
 pub fn word_in(text: &str) -> Option<u32>
     ensures { result ≡ word_in text.now }

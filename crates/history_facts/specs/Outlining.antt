@@ -1,4 +1,4 @@
--- What the facts of steps need of the machine that the records before them leave.
+-- What the facts of steps need of the machine after the records before them.
 use Rattle.std.specs.Prelude.{◌≡◌, ℕ, true, List, [], ◌∷◌, ◌++◌, length, take, slice_index}
 use Rattle.guest_call.specs.declared.thread_number.TheConstants.{THREADS}
 use Rattle.thunk_spec.specs.Record.{Record}
@@ -9,7 +9,7 @@ use Rattle.history_spec.specs.History.{History, applied_from}
 use Rattle.release_core.specs.Applying.{can_apply}
 use Rattle.history_facts.specs.declared.outline.Outline.{Outline}
 
--- The machine that the records of a history before a place leave.
+-- The machine after the records of a history before a place.
 abbrev pub machine_at : History → ℕ → Machine
 machine_at h place = applied_from (first h.setup) (take place h.records)
 
@@ -21,7 +21,7 @@ pub record IsOutlineOf (m : Machine) (outline : Outline) : Type 0 where
   pub each : length outline.numbers ≡ THREADS
   pub numbers : (t : ℕ) → slice_index outline.numbers t ≡ (hart_of m t).number
 
--- A record that may be applied to a machine which holds together, with the machine's outline.
+-- A record that may be applied to a whole machine, with the machine's outline.
 pub record MayBeApplied (m : Machine) (o : Outline) (r : Record) : Type 0 where
   pub outline : IsOutlineOf m o
   pub whole : IsWhole m

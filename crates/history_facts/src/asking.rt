@@ -14,7 +14,7 @@ use thunk_record::Record;
 use thunk_run::{Range, appends_all};
 use thunk_spec::ThunkEnd;
 
-/// The call that a record's thunk asks for; none where it stops the machine.
+/// The call that ends a record's thunk; none if the thunk stops the machine.
 pub fn call_of(rec: &Record) -> Option<Call>
     ensures { result ≡ call_in (order.ask_of rec.now) }
 {
@@ -25,7 +25,7 @@ pub fn call_of(rec: &Record) -> Option<Call>
     }
 }
 
-/// What a call does: the objects on which it acts, and its effect. The answer of a put isn't looked at.
+/// What a call does: the objects that it acts on, and its effect. The answer of a put isn't computed.
 #[derive(Drop)]
 pub struct CallResult {
     /// The objects.
@@ -34,7 +34,7 @@ pub struct CallResult {
     pub effect: Effect,
 }
 
-/// The objects on which a put acts: the output, where it appends its bytes.
+/// The objects that a put acts on: the output, if it appends its bytes.
 fn put_on(map: &PageMap, start: u32, len: u32) -> ActedOn
     ensures { objects_in result
         ≡ rows.one_of (rows.appends (is_readable map.now) start len) Object.Output }
@@ -46,7 +46,7 @@ fn put_on(map: &PageMap, start: u32, len: u32) -> ActedOn
     }
 }
 
-/// Does a call of thread `t`, which is ready.
+/// Performs a call of thread `t`, which is ready.
 pub fn act(map: &PageMap, objects: &mut Objects, t: u8, call: Call) -> CallResult
     requires exists { t < length objects.old.threads }
     requires free { rows.waits_at objects.old t ≡ 0 }

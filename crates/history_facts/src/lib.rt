@@ -22,7 +22,7 @@ use std::alloc::{AllocError, Global};
 use sync_objects::ActedOn;
 use thunk_record::Record;
 
-/// The facts of a history's records, in order, and whether the history holds together.
+/// The facts of a history's records, in order, and whether the history is coherent.
 #[derive(Drop)]
 pub struct HistoryFacts {
     /// The facts.
@@ -45,7 +45,7 @@ fn bare_fact(alloc: Global, rec: &Record) -> Result<Fact, AllocError>
     })
 }
 
-/// The fact of the next record. It is applied if it fits, and all before it did.
+/// The fact of the next record, which is applied if it fits and all records before it did.
 fn next_fact(
     alloc: Global,
     replay: &mut Replay,
@@ -68,7 +68,7 @@ fn next_fact(
     }
 }
 
-/// The facts of records that are applied to a machine, as far as they fit, and whether all do and lead to an end.
+/// The facts of records, which are applied to a machine as far as they fit, and whether all fit and lead to an end.
 fn facts_on(
     alloc: Global,
     replay: &mut Replay,
@@ -91,7 +91,7 @@ fn facts_on(
     Ok(HistoryFacts { facts, coherent })
 }
 
-/// The facts of a history of which nothing is known: each record is applied, as far as it fits.
+/// The facts of a history that isn't known to be coherent: each record is applied, as far as they fit.
 fn by_applying(alloc: Global, history: &History) -> Result<HistoryFacts, AllocError>
     ensures facts { IfOk result (λ found. found.facts.items ≡ order.facts history.now) }
     ensures coherent { IfOk result (λ found. found.coherent ≡ is_coherent history.now) }
@@ -102,7 +102,7 @@ fn by_applying(alloc: Global, history: &History) -> Result<HistoryFacts, AllocEr
     facts_on(alloc, &mut replay, records)
 }
 
-/// The facts of a history that holds together: no record has to be compared, and no page to be written.
+/// The facts of a coherent history: no record is compared, and no page is written.
 fn known(alloc: Global, history: &History) -> Result<Vec<Fact>, AllocError>
     requires { is_coherent history.now ≡ true }
     ensures facts { IfOk result (λ facts. facts.items ≡ order.facts history.now) }
@@ -119,12 +119,12 @@ fn known(alloc: Global, history: &History) -> Result<Vec<Fact>, AllocError>
     Ok(facts)
 }
 
-/// The facts of a history, and whether it holds together. From the first record on that doesn't fit, or that follows an
-/// end, the facts name thread and written pages alone. No page is compared where the history is known to hold together.
+/// The facts of a history, and whether it is coherent. From the first record on that doesn't fit, or that follows an
+/// end, the facts name thread and written pages alone. No page is compared if the history is known to be coherent.
 ///
 /// # Errors
 ///
-/// An error where the host's memory ran out.
+/// An error if the host's memory ran out.
 pub fn facts(alloc: Global, history: &History) -> Result<HistoryFacts, AllocError>
     ensures facts { IfOk result (λ found. found.facts.items ≡ order.facts history.now) }
     ensures coherent { IfOk result (λ found. found.coherent ≡ is_coherent history.now) }

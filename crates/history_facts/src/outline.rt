@@ -1,4 +1,4 @@
-//! What the facts of steps need of the machine on which their records are applied: no page, and no register.
+//! What the facts of steps need of the machine to which their records are applied: no page, and no register.
 
 ghost use Rattle.std.specs.Prelude.{◌≡◌, ◌<◌, ◌≤◌, ◌+◌, ℕ, if◌then◌else◌, slice_index, slice_set, is_some, IfOk};
 ghost use Rattle.sync_objects.specs.Acting.{objects_in};
@@ -30,8 +30,8 @@ pub struct Outline {
     numbers: [u32; THREADS],
 }
 
-/// The slots of the pages that the next thunks of some threads have read, where the records have these thunks, by how
-/// many steps each thread has made.
+/// The slots of the pages that the next thunks of some threads have read, as far as there are records of these thunks.
+/// `numbers` has how many steps each thread has made.
 fn opened(
     alloc: Global,
     records: &Records,
@@ -52,11 +52,11 @@ fn opened(
 }
 
 impl Outline {
-    /// That of the machine that a setup starts as.
+    /// The outline of the machine that a setup starts as.
     ///
     /// # Errors
     ///
-    /// An error where the host's memory ran out.
+    /// An error if the host's memory ran out.
     pub fn new(alloc: Global, setup: &Setup) -> Result<Outline, AllocError>
         ensures outline { IfOk result (IsOutlineOf (first setup.now)) }
         ensures sound { IfOk result (λ _. IsSetup setup.now) }
@@ -69,7 +69,7 @@ impl Outline {
         })
     }
 
-    /// Does the call of a record that may be applied to a machine of which this is the outline.
+    /// Performs the call of a record that may be applied to a machine with this outline.
     fn call(&mut self, rec: &Record) -> CallResult
         requires { (m : Machine) × MayBeApplied m self.old rec.now }
         ensures stays { (m : Machine) → MayBeApplied m self.old rec.now
@@ -93,7 +93,7 @@ impl Outline {
         }
     }
 
-    /// Counts a step of a thread, by which another began or none.
+    /// Counts a step of a thread, and the thread that begins with it, if one does.
     fn count(&mut self, t: u8, begins: bool)
         requires exists { t < THREADS }
         requires few { slice_index self.old.numbers t ≤ MOST_STEPS }
@@ -107,8 +107,8 @@ impl Outline {
         self.numbers[usize::from(t)] += 1;
     }
 
-    /// Does what a record asks for that may be applied to a machine of which this is the outline: from then on it is
-    /// that of the machine after the record.
+    /// Performs the request of a record that may be applied to a machine with this outline. The outline is then that of
+    /// the machine after the record.
     fn perform(&mut self, rec: &Record) -> CallResult
         requires { (m : Machine) × MayBeApplied m self.old rec.now }
         ensures outline { (m : Machine) → MayBeApplied m self.old rec.now
@@ -124,13 +124,13 @@ impl Outline {
         done
     }
 
-    /// The fact of the step of a record that may be applied to a machine of which this is the outline, by the thunks of
-    /// a history, where it is known whether an end comes after it. From then on this is the outline of the machine
-    /// after it, also after an error.
+    /// The fact of the step of a record that may be applied to a machine with this outline. `records` are those of the
+    /// history, and `last` is whether an end comes after the step. The outline is then that of the machine after the
+    /// step, also after an error.
     ///
     /// # Errors
     ///
-    /// An error where the host's memory ran out.
+    /// An error if the host's memory ran out.
     pub fn next(
         &mut self,
         alloc: Global,

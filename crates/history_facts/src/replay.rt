@@ -1,4 +1,4 @@
-//! The machine that records leave, applied one after the other, and the facts of their steps.
+//! The machine after records that are applied one after the other, and the facts of their steps.
 
 ghost use Rattle.std.specs.Prelude.{◌≡◌, true, is_some, IfOk, OnOk};
 ghost use Rattle.machine_spec.specs.Setup.{first};
@@ -13,7 +13,7 @@ use std::alloc::{AllocError, Global};
 use std::marker::Model;
 use thunk_record::Record;
 
-/// The machine that some records leave, which tells whether the next one fits, with what facts need of it.
+/// The machine after some records, with what facts need of it. It determines whether the next record fits.
 #[derive(Drop)]
 pub struct Replay {
     core: Core,
@@ -36,7 +36,7 @@ impl Replay {
     ///
     /// # Errors
     ///
-    /// An error where the host's memory ran out.
+    /// An error if the host's memory ran out.
     pub fn new(alloc: Global, setup: &Setup) -> Result<Replay, AllocError>
         ensures { IfOk result (λ replay. replay ≡ first setup.now) }
     {
@@ -60,11 +60,11 @@ impl Replay {
         self.core.ended().is_some()
     }
 
-    /// Applies a record that may be applied, and gives the fact of its step, by the thunks of a history.
+    /// Applies a record that may be applied, and returns the fact of its step. `records` are those of the history.
     ///
     /// # Errors
     ///
-    /// An error where the host's memory ran out.
+    /// An error if the host's memory ran out.
     pub fn apply(
         &mut self,
         alloc: Global,

@@ -7,8 +7,8 @@ use guest_call::Fate;
 use std::alloc::{AllocError, Global};
 use sync_objects::Effect;
 
-/// The threads to which an effect of a call of thread `t` gives a view: the caller, where its call returns, those that
-/// it wakes, and the one that it creates, which is thread `next`.
+/// The threads to which an effect of a call of thread `t` gives a view: the caller if its call returns, those that it
+/// wakes, and the one that it creates, which is thread `next`.
 pub fn served(alloc: Global, effect: &Effect, t: u8, next: u8) -> Result<Vec<u8>, AllocError>
     ensures { IfOk result (λ threads. threads.items ≡ order.served effect.now t next) }
 {

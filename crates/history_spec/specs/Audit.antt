@@ -13,8 +13,8 @@ pub record IsMade (m : Machine) (r : Record) : Type 0 where
   pub can : can_step m r.thread ≡ true
   pub made : r ≡ record_of m r.thread
 
--- The place of the first of some records that isn't as the machine makes it, where those before it were applied one
--- after the other; the place behind the last, where all are and no end comes after them; and none, where an end does.
+-- The place of the first of some records that isn't as the machine makes it, after those before it were applied one
+-- after the other. If all are, it is the place behind the last if no end comes after them, and none if an end does.
 abbrev pub IsFirstFalseFrom : Machine → List Record → Option ℕ → Type 0
 IsFirstFalseFrom m [] None = is_some m.ending ≡ true
 IsFirstFalseFrom m [] (Some zero) = is_some m.ending ≡ false
@@ -27,13 +27,13 @@ IsFirstFalseFrom m (r ∷ rs) (Some (suc i)) = IsMade m r × IsFirstFalseFrom (a
 abbrev pub IsFirstFalse : History → Option ℕ → Type 0
 IsFirstFalse h place = IsFirstFalseFrom (setup.first h.setup) h.records place
 
--- What an audit says of a history that holds together: that it is honest, or which of its records is the first false
--- one.
+-- What an audit says of a coherent history: that it is honest, or that it isn't and which of its records is the first
+-- false one.
 abbrev pub IsVerdict : History → Option ℕ → Type 0
 IsVerdict h None = IsHonest h
 IsVerdict h (Some place) = (IsHonest h → ⊥) × ((place < length h.records) × IsFirstFalse h (Some place))
 
--- How many turns the thunks of records make, each executed where those before it were applied, up to the first record
+-- How many turns the thunks of records make, each executed after those before it were applied, up to the first record
 -- that can't be applied.
 abbrev pub turns_from : Machine → List Record → ℕ
 turns_from m [] = 0

@@ -17,7 +17,7 @@ meets ks ls = list_any (λ k. is_in k ls) ks
 abbrev pub overlap : List Object → List Object → Bool
 overlap objects others = list_any (λ p. is_among p others) objects
 
--- What stands for a fact of a place where there is none.
+-- The stand-in for the fact at a place that has none.
 abbrev pub no_fact : Fact
 no_fact = record { thread = 0; objects = []; given = []; written = []; opened = []; last = false }
 

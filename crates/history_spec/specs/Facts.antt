@@ -26,29 +26,29 @@ pub record Fact : Type 0 where
   pub opened : List ℕ
   pub last : Bool
 
--- What a record's thunk asks for.
+-- What a record's thunk requests.
 abbrev pub ask_of : Record → Asked
 ask_of r = asked r.thread r.kept.end r.kept.finish
 
--- The effect of what was asked, and the objects after it; an end has none.
+-- The effect of what was requested, and the objects after it: for an end, an exit with code 0 and the same objects.
 abbrev pub acted : Machine → ℕ → Asked → Effect × Objects
 acted m t (Asks call) = act (is_readable m.frame.map) m.objects t call
 acted m t (Stops e) = (exits 0, m.objects)
 
--- The effect of what a record's thunk asks for.
+-- The effect of what a record's thunk requests.
 abbrev pub effect_of : Machine → Record → Effect
 effect_of m r = (acted m r.thread (ask_of r)).0
 
--- The objects on which what was asked acts.
+-- The objects on which what was requested acts.
 abbrev pub acting_on : Machine → Asked → List Object
 acting_on m (Asks call) = acts_on (is_readable m.frame.map) m.objects call
 acting_on m (Stops e) = []
 
--- The objects on which what a record's thunk asks for acts.
+-- The objects on which what a record's thunk requests acts.
 abbrev pub objects_of : Machine → Record → List Object
 objects_of m r = acting_on m (ask_of r)
 
--- The caller, where its call returns at once.
+-- The caller, if its call returns at once.
 abbrev pub returning : ℕ → Fate → List ℕ
 returning t (Returns a b) = t ∷ []
 returning t Blocks = []
@@ -60,8 +60,8 @@ abbrev pub starting : ℕ → Option (ℕ × ℕ) → List ℕ
 starting n None = []
 starting n (Some c) = n ∷ []
 
--- The threads to which an effect gives a view: the caller, where its call returns, those that it wakes, and the one
--- that it creates.
+-- The threads to which an effect gives a view: the caller, if its call returns, those that it wakes, and the one that
+-- it creates.
 abbrev pub served : Effect → ℕ → ℕ → List ℕ
 served e t n = returning t e.fate ++ (e.woken ++ starting n e.created)
 
@@ -94,7 +94,8 @@ fact_of reads m r =
       last = is_some (apply m r).ending;
     }
 
--- The fact of a record that doesn't fit, or that follows an end: its thread and the pages that it writes, and no more.
+-- The fact of a record that doesn't fit, that follows an end, or that follows such a one: its thread and the pages that
+-- it writes, and no more.
 abbrev pub bare_fact : Record → Fact
 bare_fact r =
     record { thread = r.thread; objects = []; given = []; written = written_slots r; opened = []; last = false }

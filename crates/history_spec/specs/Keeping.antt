@@ -4,7 +4,7 @@ use Rattle.thunk_spec.specs.Record.{Record}
 use Rattle.history_spec.specs.Facts.{Fact}
 use Rattle.history_spec.specs.Before.{before}
 
--- A list with a thing set behind its first, or alone where it has none.
+-- A list with a thing set behind its first one, or alone if the list is empty.
 abbrev pub set_second : {A : Type 0} → A → List A → List A
 set_second a [] = a ∷ []
 set_second a (x ∷ xs) = x ∷ a ∷ xs
@@ -28,12 +28,12 @@ abbrev pub is_free_of : Fact → List Fact → Bool
 is_free_of f [] = false
 is_free_of f (g ∷ fs) = not (before f g)
 
--- Whether a thread's next step may come now, of steps that are left: none that is left must come before it.
+-- Whether a thread has a step among those that remain, and its next one may come now: no other must come before it.
 abbrev pub may_come : ℕ → List Fact → Bool
 may_come t [] = false
 may_come t (f ∷ fs) = (f.thread == t) || (may_come t fs && is_free_of f (moved fact_thread t fs))
 
--- Whether the steps of a schedule may come one after the other, of steps that are left: each after all that must come
+-- Whether the steps of a schedule may come one after the other, of the steps that remain: each after all that must come
 -- before it.
 abbrev pub may_begin : List Fact → List ℕ → Bool
 may_begin fs [] = true
@@ -55,7 +55,7 @@ abbrev pub set_front : {A : Type 0} → List A → List A → List A
 set_front [] ys = ys
 set_front (x ∷ xs) ys = x ∷ ys
 
--- Records in the order of a schedule: for each entry the first that is left of its thread, and then all that are left.
+-- Records in the order of a schedule: for each entry the first that remains of its thread, and then all that remain.
 abbrev pub arranged : List ℕ → List Record → List Record
 arranged [] rs = rs
 arranged (t ∷ schedule) rs =

@@ -1,12 +1,12 @@
 //! Histories of finished runs, as definitions, with their laws. No code.
 //!
-//! - When a history is honest, which of its records is the first false one, when it is coherent, when a new run may go
-//!   by it, and which of its records stands for a step: each record of an honest history is true; to apply one that
-//!   fits is the step of its thread; an honest history is coherent and is exactly one without a false record; a ready
-//!   thread's view is fixed until it makes its step; and records have their slots in the page map.
+//! - When a history is honest, which of its records is the first false one, when it is coherent, when a new run may be
+//!   based on it, and which of its records can replace a step: each record of an honest history is true; applying one
+//!   that fits is the step of its thread; an honest history is coherent, and is exactly one without a first false
+//!   record; a ready thread's view is fixed until it makes its step; and records have their slots in the page map.
 //! - Which steps of a history must come before which: every order of its steps that keeps this leads to the same, and
-//!   every beginning of one can go on to it: each record fits in its turn, and end, output and final memory are the
-//!   history's.
+//!   every beginning of one can be continued to the same: each record fits when it comes, and end, output and final
+//!   memory are the history's.
 #![tactic(auto)]
 
 ghost use Rattle.std.specs.Prelude.{◌≡◌, ℕ, List, All, length, Option, count_by, Some, true, false, ◌==◌, None};
@@ -42,8 +42,8 @@ pub fn honest_is_coherent()
     ensures { (h : History) → IsHonest h → is_coherent h ≡ true }
 {}
 
-/// Where a record that is found fits the machine from scratch, it is the record of the step that its
-/// thread would make there, and to apply it is that step. The history may be of another input and fuel.
+/// If a record that is found fits the machine from scratch, it is the record of the step that its thread would make
+/// there, and applying it is that step. The history may be of another input and fuel.
 pub fn reuse_is_step()
     ensures record { (setup : Setup) (past : Option History) (schedule : List ℕ) (t number : ℕ)
         (r : Record)
@@ -61,8 +61,8 @@ pub fn reuse_is_step()
         → apply (scratch setup schedule) r ≡ step (scratch setup schedule) t }
 {}
 
-/// A thread that is ready, and makes none of the steps of a schedule, keeps its registers, its number
-/// of steps, its status and its view. So a record of it fits after them where it fitted before.
+/// A thread that is ready, and makes none of the steps of a schedule, keeps its registers, its number of steps, its
+/// status and its view. So a record of it fits after them exactly if it fitted before.
 pub fn view_is_fixed()
     ensures hart { (m : Machine) (schedule : List ℕ) (t : ℕ)
         → IsWhole m
@@ -103,15 +103,14 @@ pub fn records_are_mapped()
     ensures honest { (h : History) → IsHonest h → IsMapped h }
 {}
 
-/// A history whose setup may be run is honest exactly where none of its records is the first false one. Nothing else is
-/// asked of it: not that it holds together.
+/// A history whose setup may be run is honest exactly if none of its records is the first false one. Nothing else is
+/// required of it, not even that it is coherent.
 pub fn honest_has_no_false_record()
     ensures only { (h : History) → IsSetup h.setup → IsFirstFalse h None → IsHonest h }
     ensures always { (h : History) → IsHonest h → IsFirstFalse h None }
 {}
 
-/// Of a history that holds together the first false record tells whether it is honest; and where it isn't, it is one of
-/// its records.
+/// A coherent history is honest if it has no first false record; else it isn't, and this is one of its records.
 pub fn first_false_record_is_the_verdict()
     ensures { (h : History) (place : Option ℕ)
         → IsSetup h.setup → is_coherent h ≡ true → IsFirstFalse h place → IsVerdict h place }
@@ -149,8 +148,8 @@ pub fn every_reordering_leads_to_the_same()
         → LeadToTheSame h (records_at h.records places) }
 {}
 
-/// Whatever steps of an honest history have come, each after all that must come before it: the rest can
-/// follow in the old order, and all together lead to the same.
+/// Whatever steps of an honest history came first, each after all that must come before it: the rest can follow in the
+/// old order, and all together lead to the same.
 pub fn every_beginning_goes_on()
     ensures { (h : History) (schedule : List ℕ)
         → IsHonest h

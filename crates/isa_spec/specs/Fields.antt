@@ -14,7 +14,7 @@ opcode_of w = bits w 6 0
 abbrev pub rd_of : ℕ → ℕ
 rd_of w = bits w 11 7
 
--- tells instructions of one opcode apart (RISC-V unprivileged ISA 20191213, 2.2)
+-- distinguishes instructions of one opcode (RISC-V unprivileged ISA 20191213, 2.2)
 abbrev pub funct3_of : ℕ → ℕ
 funct3_of w = bits w 14 12
 
@@ -26,7 +26,7 @@ rs1_of w = bits w 19 15
 abbrev pub rs2_of : ℕ → ℕ
 rs2_of w = bits w 24 20
 
--- tells instructions of one opcode and funct3 apart (RISC-V unprivileged ISA 20191213, 2.2)
+-- distinguishes instructions of one opcode and funct3 (RISC-V unprivileged ISA 20191213, 2.2)
 abbrev pub funct7_of : ℕ → ℕ
 funct7_of w = bits w 31 25
 

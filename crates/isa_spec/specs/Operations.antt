@@ -1,4 +1,4 @@
--- What the instructions that compute give, on words.
+-- The results, on words, of the instructions that compute.
 use Rattle.std.specs.Prelude.{ℕ, Bool, not, ◌==◌, bit_and, bit_or, bit_xor}
 use Rattle.isa_spec.specs.declared.BranchTest.{BranchTest}
 use Rattle.isa_spec.specs.declared.BranchTest.TheVariants as test

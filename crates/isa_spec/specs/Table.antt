@@ -16,7 +16,7 @@ use Rattle.isa_spec.specs.declared.RegisterOperation.{RegisterOperation}
 use Rattle.isa_spec.specs.declared.RegisterOperation.TheVariants as register
 use Rattle.isa_spec.specs.Fields.{opcode_of, rd_of, funct3_of, rs1_of, rs2_of, funct7_of, i_immediate, s_immediate, b_immediate, u_immediate, j_immediate}
 
--- what a row wants of a field: one value, or any
+-- what a row requires of a field: one value, or any
 pub data Wanted : Type 0 where
   fixed : ℕ → Wanted
   free : Wanted
@@ -30,7 +30,7 @@ pub record Row : Type 0 where
   pub whole : Wanted
   pub read : ℕ → Instr
 
--- whether a field has the value that is wanted
+-- whether a field's value is the required one, or any is allowed
 abbrev pub is_wanted : Wanted → ℕ → Bool
 is_wanted (fixed n) value = value == n
 is_wanted free value = true
@@ -135,7 +135,6 @@ reading_in (r ∷ rs) opcode f3 f7 w =
 unfoldable pub reading_of : ℕ → ℕ → ℕ → ℕ → Option (ℕ → Instr)
 reading_of = reading_in rows
 
--- the instruction of a word, or none where no row has it: such a word is illegal (RISC-V unprivileged ISA 20191213,
--- 2.2)
+-- the instruction of a word, or none if no row has it: such a word is illegal (RISC-V unprivileged ISA 20191213, 2.2)
 unfoldable pub decoded : ℕ → Option Instr
 decoded w = option_map (λ read. read w) (reading_of (opcode_of w) (funct3_of w) (funct7_of w) w)

@@ -25,8 +25,8 @@ is_less a b = int_lt (signed a) (signed b)
 abbrev pub is_less_unsigned : ℕ → ℕ → Bool
 is_less_unsigned a b = nat_lt a b
 
--- the word of a comparison: 1 where it holds, and 0 else (RISC-V unprivileged ISA 20191213, 2.4, Integer
--- Register-Immediate Instructions)
+-- the word of a comparison: 1 if it holds, else 0 (RISC-V unprivileged ISA 20191213, 2.4, Integer Register-Immediate
+-- Instructions)
 abbrev pub word_of_test : Bool → ℕ
 word_of_test holds = if holds then 1 else 0
 

@@ -1,7 +1,7 @@
-//! What the instructions of RV32IM mean: their types, words and registers, the table of their
-//! encodings, the two laws that tie the table to the encoding, and that registers compare as equal where they are.
+//! What the instructions of RV32IM mean: their types, words and registers, the table of their encodings, the two laws
+//! that tie the table to the encoding, and that registers compare as equal exactly if they are.
 //!
-//! The definitions stand in `specs/`. This crate has no code beside the types and the numbers of causes.
+//! The definitions are in `specs/`. This crate has no code beside the types and the numbers of causes.
 #![tactic(auto)]
 
 ghost use Rattle.std.specs.Prelude.{◌≡◌, ℕ, ◌<◌, ◌^◌, Some};
@@ -59,7 +59,7 @@ pub enum Store {
 pub enum ImmediateOperation {
     /// ADDI.
     Add,
-    /// SLTI: 1 where the register is less as a signed number, else 0.
+    /// SLTI: 1 if the register is less as a signed number, else 0.
     Less,
     /// SLTIU: the same for unsigned numbers; the extended immediate is read unsigned.
     LessUnsigned,
@@ -92,7 +92,7 @@ pub enum RegisterOperation {
     Subtract,
     /// SLL: by the low five bits of the second register.
     ShiftLeftLogical,
-    /// SLT: 1 where the first is less as a signed number, else 0.
+    /// SLT: 1 if the first is less as a signed number, else 0.
     Less,
     /// SLTU: the same for unsigned numbers.
     LessUnsigned,
@@ -151,14 +151,14 @@ pub enum Instr {
         rs1: u8,
         imm: u32,
     },
-    /// A jump to pc plus the immediate where rs1 and rs2 meet the test.
+    /// A jump to pc plus the immediate if rs1 and rs2 meet the test.
     Branch {
         test: BranchTest,
         rs1: u8,
         rs2: u8,
         imm: u32,
     },
-    /// rd takes what stands in memory at rs1 plus the immediate.
+    /// rd takes what memory has at rs1 plus the immediate.
     Load {
         load: Load,
         rd: u8,
@@ -248,7 +248,7 @@ impl Cause {
     }
 }
 
-/// Decoding gives back the instruction whose encoding it reads, for operands in range.
+/// Decoding returns the instruction whose encoding it reads, for operands in range.
 #[inline(always)]
 pub fn decoding_inverts_encoding()
     ensures { (i : Instr) → InRange i → decoded (encoding i) ≡ Some i }
@@ -261,7 +261,7 @@ pub fn decoded_was_encoded()
     ensures { (w : ℕ) (i : Instr) → w < 2 ^ 32 → decoded w ≡ Some i → InRange i × Spells w i }
 {}
 
-/// Registers compare as the same exactly where they are equal.
+/// Registers compare as the same exactly if they are equal.
 #[inline(always)]
 pub fn same_registers_are_equal()
     ensures { (a b : Registers) → Decides (same_registers a b) (a ≡ b) }

@@ -6,12 +6,12 @@ use Rattle.std.specs.BTreeMap.{BTreeMap, get_by_text}
 use Rattle.ith_host.specs.declared.memory.MemHost.{MemHost}
 use Rattle.ith_host.specs.World.{World}
 
--- The content of the file of each name, as a map from names has it.
+-- The content of the file of each name, by a map from names.
 abbrev pub files_of : BTreeMap (String Global) (Vec ℕ Global) → List ℕ → Option (List ℕ)
 files_of files name = option_map (λ content. content.items) (get_by_text files name)
 
--- A host in memory tells all files that it holds and all that was printed, and has one count of each kind for all
--- names.
+-- The world of a host in memory: all files that it holds and all printed bytes are known, and there is one count of
+-- each kind for all names.
 abbrev pub memory_world : MemHost → World
 memory_world host = record {
   tells = true;
@@ -27,8 +27,8 @@ memory_world host = record {
 abbrev pub fails_next : MemHost → Bool
 fails_next host = list_any (λ number. nat_eq number host.calls) host.failing.items
 
--- A call was numbered, and the calls that were named to fail are as before, with how many bytes of a print that fails
--- still go out.
+-- A call was numbered. The calls that were named to fail are as before, and so is how many bytes of a failing print are
+-- still printed.
 pub record IsNumbered (before after : MemHost) : Type 0 where
   pub calls : after.calls ≡ min (before.calls + 1) (2 ^ 64 - 1)
   pub failing : after.failing ≡ before.failing

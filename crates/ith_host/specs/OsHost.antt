@@ -3,7 +3,8 @@ use Rattle.std.specs.Prelude.{false, None}
 use Rattle.ith_host.specs.declared.system.OsHost.{OsHost}
 use Rattle.ith_host.specs.World.{World}
 
--- The operating system's host tells nothing of its files, and has one count of each kind for all names.
+-- The world of the operating system's host: nothing is known of its files, and there is one count of each kind for all
+-- names.
 abbrev pub os_world : {R : Type 0} → OsHost R → World
 os_world host = record {
   tells = false;

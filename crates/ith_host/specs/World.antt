@@ -2,9 +2,9 @@
 use Rattle.std.specs.Prelude.{◌≡◌, ◌≢◌, ℕ, ◌+◌, ◌-◌, ◌^◌, ◌≤◌, min, Bool, IsTrue, List, ◌++◌, take, Option, Some, IfSome}
 use Rattle.std.specs.Io.KnownBytes.{Appends}
 
--- The outside: whether it tells what was written to it; the content of the file of each name, and the printed bytes,
--- where they are told; the names that reads asked for, in order; how many reads and writes of each name failed, and how
--- many prints.
+-- The outside: whether what was written to it is known; the content of the file of each name, and the printed bytes, if
+-- they are known; the names that reads requested, in order; how many reads and writes of each name failed, and how many
+-- prints.
 pub record World : Type 0 where
   pub tells : Bool
   pub files : List ℕ → Option (List ℕ)
@@ -14,7 +14,7 @@ pub record World : Type 0 where
   pub write_faults : List ℕ → ℕ
   pub print_faults : ℕ
 
--- A count rose: it is greater than before, or stands at its type's end.
+-- A count rose: it is greater than before, or at its type's maximum.
 abbrev pub Rose : ℕ → ℕ → Type 0
 Rose before after = min (before + 1) (2 ^ 64 - 1) ≤ after
 
@@ -36,19 +36,19 @@ pub record StaysBut (name : List ℕ) (before after : World) : Type 0 where
   pub others : (other : List ℕ) → other ≢ name → after.files other ≡ before.files other
   pub printed : after.printed ≡ before.printed
 
--- These names were asked for, in order, and no other.
+-- These names were requested, in order, and no other.
 abbrev pub AsksFor : List (List ℕ) → World → World → Type 0
 AsksFor names before after = after.asked ≡ before.asked ++ names
 
--- No name was asked for.
+-- No name was requested.
 abbrev pub AsksNothing : World → World → Type 0
 AsksNothing before after = after.asked ≡ before.asked
 
--- The file of a name has this content, where it is told.
+-- The file of a name has this content, if it is known.
 abbrev pub IsContent : World → List ℕ → List ℕ → Type 0
 IsContent world name content = IfSome (world.files name) (λ told. told ≡ content)
 
--- The file of a name was made to hold this content, and a world that tells what it holds tells this.
+-- The file of a name was made to hold this content, which is known if what was written to the world is.
 abbrev pub Holds : World → List ℕ → List ℕ → Type 0
 Holds world name content = IsTrue world.tells → world.files name ≡ Some content
 

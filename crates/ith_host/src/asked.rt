@@ -1,11 +1,11 @@
-//! The names that a host was asked for, in a value of no bytes that only contracts read.
+//! The names that a host's reads requested, in a value of no bytes that only contracts read.
 
 ghost use Rattle.std.specs.Prelude.{◌≡◌, ℕ, List, [], ◌∷◌, ◌++◌};
 ghost use Rattle.std.specs.Borrow.{ftrue};
 
 use std::marker::{Model, PhantomData};
 
-/// The names that reads asked for, in order. It has no bytes: clauses alone read it, and a program can't.
+/// The names that reads requested, in order. It has no bytes: only clauses can read it.
 #[derive(Drop)]
 pub(crate) struct Asked {
     marker: PhantomData<u8>,
@@ -17,7 +17,7 @@ impl Model for Asked {
 }
 
 impl Asked {
-    /// No name was asked for so far.
+    /// No name was requested so far.
     pub(crate) fn none() -> Self
         ensures { result.names ≡ [] }
     {
@@ -26,7 +26,7 @@ impl Asked {
         }
     }
 
-    /// This name was asked for.
+    /// Notes that this name was requested.
     pub(crate) fn note(&mut self, _name: &[u8])
         ensures { self.new.names ≡ self.old.names ++ _name.now ∷ [] }
     {}

@@ -1,22 +1,22 @@
-//! What a worker passes before it executes a thunk, and who is shown how far a round is.
+//! The gate that a worker passes before it executes a thunk. It is also shown how far a round is.
 
-/// What a worker passes before it executes a thunk, while it holds no lock, and who is shown how far a round is. It
-/// promises nothing.
+/// The gate that a worker passes before it executes a thunk, while it holds no lock. It is also shown how far a round
+/// is. It promises nothing.
 pub trait Gate {
-    /// Comes before thunk `number` of `thread` is executed, if several workers make the round.
+    /// Called before thunk `number` of `thread` is executed, if several workers make the round.
     fn enter(&self, thread: u8, number: u32);
 
-    /// Comes before the round of this number is made.
+    /// Called before the round of this number is made.
     fn begin(&self, _round: u64) {}
 
-    /// Comes after so many steps of the round were made more: they were reused, or else executed.
+    /// Called after `_steps` more steps of the round were made: reused ones if `_reused`, else executed ones.
     fn made(&self, _steps: u64, _reused: bool) {}
 
-    /// Comes after the round was made, before anything is said of it.
+    /// Called after the round was made, before it is reported.
     fn end(&self) {}
 }
 
-/// The gate that lets everybody pass at once, and shows nothing.
+/// The gate that lets every worker pass at once, and shows nothing.
 #[derive(Clone, Copy)]
 pub struct OpenGate;
 

@@ -41,16 +41,16 @@ pub enum Printed {
 
 /// The outside of the program.
 ///
-/// Its meaning is a `World`: the files by name and the printed bytes, as far as they are told, the names that reads
-/// asked for, and the faults of reads, writes and prints that there were. The counts of faults never fall.
+/// Its meaning is a `World`: the files by name and the printed bytes, as far as they are known, the names that reads
+/// requested, and how many reads, writes and prints failed. The counts of faults never fall.
 pub trait Host {
-    // What this host is, seen from the contracts.
+    // The world of this host, as contracts see it.
     ghost world: { Self → World };
 
-    /// Reads a file of at most `limit` bytes into an empty vector. Its name is noted as asked for.
+    /// Reads a file of at most `limit` bytes into an empty vector. Its name is noted as requested.
     ///
-    /// `Failed` only after a fault of this name's reads, `TooLong` exactly where the content, if it is told, is
-    /// longer than the limit. After any answer but `Ok` the vector is empty.
+    /// `Failed` only after a fault of this name's reads, `TooLong` only if the content, if it is known, is longer than
+    /// the limit. After any result but `Ok` the vector is empty.
     fn read(&mut self, name: &str, limit: u64, into: &mut Vec<u8>) -> Got
         requires { into.old.items ≡ [] }
         ensures content { result ≡ Got.Ok → IsContent (world self.old) name.now into.new.items }
@@ -66,7 +66,7 @@ pub trait Host {
 
     /// Makes the file of a name hold the bytes, whatever it held before.
     ///
-    /// `Failed` only after a fault of this name's writes, and then nothing is told of the file.
+    /// `Failed` only after a fault of this name's writes, and then nothing is known of the file.
     fn write(&mut self, name: &str, bytes: &[u8]) -> Put
         ensures written { result ≡ Put.Ok → Holds (world self.new) name.now bytes.now }
         ensures failed { result ≡ Put.Failed → Rose ((world self.old).write_faults name.now)
@@ -79,7 +79,7 @@ pub trait Host {
 
     /// Appends the bytes to what was printed.
     ///
-    /// `Failed` only after a fault of printing, and then the first of the bytes may stand there.
+    /// `Failed` only after a fault of printing, and then some of the first bytes may have been printed.
     fn print(&mut self, bytes: &[u8]) -> Printed
         ensures printed { result ≡ Printed.Ok
             → Appends (world self.old).printed (world self.new).printed bytes.now }
@@ -93,7 +93,7 @@ pub trait Host {
         ensures asked { AsksNothing (world self.old) (world self.new) }
         ensures counts { NoneFell (world self.old) (world self.new) };
 
-    /// Writes a line to the standard error. Nothing rests on its success.
+    /// Writes a line to the standard error. Nothing depends on its success.
     fn complain(&mut self, line: &[u8])
         ensures stays { Stays (world self.old) (world self.new) }
         ensures asked { AsksNothing (world self.old) (world self.new) }

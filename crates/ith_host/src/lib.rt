@@ -1,7 +1,7 @@
 //! The world outside of the runtime: files, printed bytes, and the gate that a worker passes.
 //!
-//! `Host` is all that the program does to the outside, as a trait whose contracts speak of one `World`. `MemHost`
-//! keeps that world in memory, and can be told which of its calls fail. `OsHost` is the operating system's.
+//! `Host` is all that the program does to the outside, as a trait whose contracts speak of one `World`. `MemHost` keeps
+//! that world in memory, and fails those of its calls that are named at its start. `OsHost` is the operating system's.
 #![tactic(auto)]
 
 mod asked;

@@ -9,7 +9,7 @@ use crate::host::{Got, Host, Printed, Put};
 use std::alloc::Global;
 use std::collections::BTreeMap;
 
-/// A host in memory, for tests and for embedding: it tells all that it holds.
+/// A host in memory, for tests and for embedding: all that it holds is known.
 ///
 /// Its calls of `read`, `write` and `print` are numbered from 0, and the ones that were named at its start fail.
 #[derive(Drop)]
@@ -30,8 +30,8 @@ pub struct MemHost {
 impl MemHost {
     ghost use Rattle.ith_host.specs.MemHost.{memory_world, files_of, fails_next, IsNumbered};
 
-    /// A host with these files, of which the calls numbered in `failing` fail. Of a print that fails, the first
-    /// `part` bytes still go out.
+    /// A host with these files, of which the calls numbered in `failing` fail. Of a print that fails, the first `part`
+    /// bytes are still printed.
     pub fn new(
         alloc: Global,
         files: BTreeMap<String, Vec<u8>>,
@@ -84,7 +84,7 @@ impl MemHost {
         self.printed.as_slice()
     }
 
-    /// The lines that were complained of, each with a newline.
+    /// The lines that `complain` was given, each with a newline.
     pub fn complained(&self) -> &[u8]
         ensures { result.now ≡ self.now.complained.items }
     {
@@ -195,8 +195,8 @@ impl Host for MemHost {
         }
     }
 
-    /// A print that is named to fail is `Failed` after its first bytes went out, as many as were named, unless there
-    /// is no memory for them; and no other is.
+    /// A print that is named to fail is `Failed` after its first `part` bytes were printed, unless there is no memory
+    /// for them; no other is.
     fn print(&mut self, bytes: &[u8]) -> Printed
         ensures listed { fails_next self.old ≡ true
             → (result ≡ Printed.Failed) ⊎ (result ≡ Printed.Memory) }
@@ -255,7 +255,7 @@ impl Host for MemHost {
     }
 }
 
-/// Hands a file's content out, if it is within the limit.
+/// Copies a file's content, if it is within the limit.
 fn take_content(content: &[u8], limit: u64, into: &mut Vec<u8>) -> Got
     requires { into.old.items ≡ [] }
     ensures taken { result ≡ Got.Ok → into.new.items ≡ content.now }

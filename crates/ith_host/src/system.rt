@@ -9,8 +9,8 @@ use crate::transfer::{FaultCounter, read_to_limit, write_to_end};
 use std::fs::{File, Files};
 use std::io::{self, Eprint, Print};
 
-/// The operating system as a host. It tells nothing of its files: its calls of the system are trusted, and only
-/// the loops round them are proved.
+/// The operating system as a host. Nothing is known of its files: its system calls are trusted, and only the loops
+/// around them are proved.
 #[derive(Drop)]
 pub struct OsHost<'a, R> {
     rt: &'a R,

@@ -9,7 +9,7 @@ ghost use Rattle.ith_host.specs.World.{Rose};
 use crate::host::Got;
 use std::io::{self, Read, Write};
 
-/// The number of bytes that are asked for at once.
+/// The number of bytes that are requested at once.
 const PIECE: usize = 4096;
 
 /// A source or a sink whose errors are counted.
@@ -20,7 +20,7 @@ pub struct FaultCounter<S> {
 }
 
 impl<S> FaultCounter<S> {
-    /// Counts the errors of a source or a sink on from this number.
+    /// Counts the errors of a source or a sink, starting from this number.
     pub fn new(inner: S, faults: u64) -> Self
         ensures inner { result.inner ≡ inner }
         ensures faults { result.faults ≡ faults }
@@ -28,7 +28,7 @@ impl<S> FaultCounter<S> {
         FaultCounter { inner, faults }
     }
 
-    /// How many errors there were, from the number on that it began with.
+    /// The number that it started from, and the errors since.
     pub fn faults(&self) -> u64
         ensures { result ≡ self.now.faults }
     {
@@ -74,9 +74,9 @@ impl<S: Write> FaultCounter<S> {
 
 /// Reads a source to its end, unless it gives more bytes than the limit.
 ///
-/// A source that gives nothing is at its end, and any error of it ends the call as `Failed`, which no other cause
-/// does. At most `limit + 1` bytes are taken: then the answer is `TooLong`. After any answer but `Ok` the vector is
-/// empty.
+/// A source that gives no bytes is at its end. Any error of the source ends the call as `Failed`, and nothing else
+/// does. At most `limit + 1` bytes are taken; more than `limit` are `TooLong`, if there is memory for them. After any
+/// result but `Ok` the vector is empty.
 pub fn read_to_limit<S: Read>(source: &mut FaultCounter<S>, limit: u64, into: &mut Vec<u8>) -> Got
     requires { into.old.items ≡ [] }
     ensures all { result ≡ Got.Ok
@@ -114,7 +114,7 @@ pub fn read_to_limit<S: Read>(source: &mut FaultCounter<S>, limit: u64, into: &m
     }
 }
 
-/// How many bytes are asked for: a piece, but one more than the limit at most.
+/// How many bytes are requested: a piece, but with the bytes already taken at most one more than the limit.
 fn room_for(limit: u64, taken: usize) -> usize
     requires { taken ≤ limit }
     ensures some { 0 < result }
@@ -129,10 +129,10 @@ fn room_for(limit: u64, taken: usize) -> usize
     }
 }
 
-/// Writes all of the bytes to a sink, and says whether it took them.
+/// Writes all of the bytes to a sink, and returns whether it took them.
 ///
-/// It didn't only where an error of the sink ended the call, or where the sink took nothing of a piece that isn't
-/// empty, which counts as one.
+/// The result is `false` only if an error of the sink ended the call, or the sink took nothing of a piece that isn't
+/// empty, which counts as an error.
 pub fn write_to_end<S: Write>(sink: &mut FaultCounter<S>, bytes: &[u8]) -> bool
     ensures all { result ≡ true
         → Appends (S.contents sink.old.inner) (S.contents sink.new.inner) bytes.now }

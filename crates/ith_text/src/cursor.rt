@@ -7,14 +7,13 @@ ghost use Rattle.ith_text.specs.Place.{Place, Takes};
 use byteorder::{ByteOrder, LittleEndian};
 use std::marker::Model;
 
-/// The answer that fewer bytes are left than a field has.
+/// Fewer bytes remain than a field has.
 #[derive(Clone, Copy, PartialEq, Eq)]
 pub struct Short;
 
 /// A reader of the fields of a file, from the first byte on.
 ///
-/// It is seen as its place: how many bytes were taken, and which bytes are left. After `Short` the place is as
-/// before.
+/// A clause sees its place: how many bytes were taken, and which bytes remain. After `Short` the place is as before.
 #[derive(Drop)]
 pub struct Cursor<'a> {
     bytes: &'a [u8],
@@ -44,14 +43,14 @@ impl<'a> Cursor<'a> {
         self.at
     }
 
-    /// How many bytes are left.
+    /// How many bytes remain.
     pub fn remaining(&self) -> usize
         ensures { result ≡ length self.now.left }
     {
         self.bytes.len() - self.at
     }
 
-    /// The next bytes, or `Short` exactly where fewer are left.
+    /// The next bytes, or `Short` exactly if fewer remain.
     pub fn bytes(&mut self, count: usize) -> Result<&'a [u8], Short>
         ensures taken { IfOk result (λ piece. Takes piece.now self.old self.new) }
         ensures count { IfOk result (λ piece. length piece.now ≡ count) }
@@ -67,7 +66,7 @@ impl<'a> Cursor<'a> {
         Ok(&self.bytes[start..start + count])
     }
 
-    /// The next byte, or `Short` exactly where none is left.
+    /// The next byte, or `Short` exactly if none remains.
     pub fn u8(&mut self) -> Result<u8, Short>
         ensures taken { IfOk result (λ value. Takes (value ∷ []) self.old self.new) }
         ensures enough { 1 ≤ length self.old.left → IsOk result }
@@ -78,7 +77,7 @@ impl<'a> Cursor<'a> {
         Ok(piece[0])
     }
 
-    /// The next two bytes as a number, the lower first, or `Short` exactly where fewer are left.
+    /// The next two bytes as a number, the lower first, or `Short` exactly if fewer remain.
     pub fn u16(&mut self) -> Result<u16, Short>
         ensures taken { IfOk result (λ value. Takes (little_bytes 2 value) self.old self.new) }
         ensures enough { 2 ≤ length self.old.left → IsOk result }
@@ -89,7 +88,7 @@ impl<'a> Cursor<'a> {
         Ok(u16_of(piece))
     }
 
-    /// The next four bytes as a number, the lowest first, or `Short` exactly where fewer are left.
+    /// The next four bytes as a number, the lowest first, or `Short` exactly if fewer remain.
     pub fn u32(&mut self) -> Result<u32, Short>
         ensures taken { IfOk result (λ value. Takes (little_bytes 4 value) self.old self.new) }
         ensures enough { 4 ≤ length self.old.left → IsOk result }
@@ -100,7 +99,7 @@ impl<'a> Cursor<'a> {
         Ok(u32_of(piece))
     }
 
-    /// The next eight bytes as a number, the lowest first, or `Short` exactly where fewer are left.
+    /// The next eight bytes as a number, the lowest first, or `Short` exactly if fewer remain.
     pub fn u64(&mut self) -> Result<u64, Short>
         ensures taken { IfOk result (λ value. Takes (little_bytes 8 value) self.old self.new) }
         ensures enough { 8 ≤ length self.old.left → IsOk result }

@@ -53,7 +53,7 @@ pub fn list(
     result
 }
 
-/// Appends the line, or a part of it where memory is wanting.
+/// Appends the line, or a part of it if memory runs out.
 fn append_list(
     alloc: Global,
     name: &str,
@@ -71,7 +71,7 @@ fn append_list(
     Ok(())
 }
 
-/// Appends a space and a number in decimal, or at most the space where memory is wanting.
+/// Appends a space and a number in decimal, or at most the space if memory runs out.
 fn append_item(alloc: Global, number: u64, into: &mut Vec<u8>) -> Result<(), AllocError>
     ensures ok { OnOk result (into.new.items ≡ into.old.items ++ list_item number) }
     ensures begins { take (length into.old.items) into.new.items ≡ into.old.items }

@@ -7,7 +7,7 @@ use byteorder::{ByteOrder, LittleEndian};
 use std::alloc::{AllocError, Global};
 use std::marker::Model;
 
-/// A writer of the fields of a file, seen as the bytes that were written. After want of memory they are as before.
+/// A writer of the fields of a file. A clause sees the bytes that were written. If memory runs out, they are as before.
 #[derive(Drop)]
 pub struct Out {
     written: Vec<u8>,
@@ -20,7 +20,7 @@ impl Model for Out {
 }
 
 impl Out {
-    /// A writer of nothing so far.
+    /// A writer that has written nothing.
     pub fn new(alloc: Global) -> Self
         ensures { result ≡ [] }
     {
@@ -50,7 +50,7 @@ impl Out {
         self.written.as_slice()
     }
 
-    /// Gives the bytes up, without memory.
+    /// Consumes the writer, and returns the bytes. Allocates no memory.
     pub fn into_vec(self) -> Vec<u8>
         ensures { result.items ≡ self }
     {

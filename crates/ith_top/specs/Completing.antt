@@ -1,4 +1,4 @@
--- When nothing stands in a line's way, and that the line is then done.
+-- The conditions under which a command line is done.
 use Rattle.std.specs.Prelude.{◌≡◌, ℕ, ◌⊎◌, List, IfSome, Option, Some, None}
 use Rattle.std.specs.List.{AllZip}
 use Rattle.history_spec.specs.History.{History}
@@ -11,18 +11,18 @@ use Rattle.ith_top.specs.Contents.{AreLists, Contents, WasRead, ReplayContents, 
 use Rattle.ith_top.specs.Ends.{OfNone, new_memo_of, IsTooLargeToKeep}
 use Rattle.ith_top.specs.Statuses.{code_of}
 
--- The host failed at nothing that the line asks of it: no count of faults rose.
+-- The host failed at no call of the command line: no count of faults rose.
 pub record HasNoFault (line : Line) (before after : World) : Type 0 where
   pub reads : OfNone (FailedToRead before after) (files_named line)
   pub prints : Rose before.print_faults after.print_faults → ⊥
   pub writes : IfSome (new_memo_of line) (λ name. Rose (before.write_faults name) (after.write_faults name) → ⊥)
 
--- Edit lists are told.
+-- The host states these contents of the edit lists of these names.
 abbrev pub AreTold : World → List Text → List (List ℕ) → Type 0
 AreTold before names lists = AllZip (λ name list. before.files name ≡ Some list) names lists
 
--- The files of a line that runs a guest are told and within their limits, and the executable and the edit lists are
--- accepted.
+-- The contents of the files of a `run` command are stated and within their limits, and the executable and the edit
+-- lists are accepted.
 pub record AreAccepted (line : RunLine) (before : World) : Type 0 where
   pub contents : Contents
   pub elf : before.files line.elf ≡ Some contents.elf
@@ -32,7 +32,7 @@ pub record AreAccepted (line : RunLine) (before : World) : Type 0 where
   pub inputs : List (List ℕ)
   pub edited : AreInputs contents.input contents.lists inputs
 
--- A memo is told, within its limit, and accepted.
+-- The content of a memo is stated, within its limit, and accepted.
 pub record IsAcceptedMemo (name : Text) (before : World) : Type 0 where
   pub memo : List ℕ
   pub told : before.files name ≡ Some memo
@@ -40,7 +40,8 @@ pub record IsAcceptedMemo (name : Text) (before : World) : Type 0 where
   pub history : History
   pub accepted : IsMemoOf memo history
 
--- The memo of a line that reruns it is accepted, and its edit lists are told, within their limit, and accepted.
+-- The memo of a `rerun` command is accepted, and the contents of its edit lists are stated, within their limit, and
+-- accepted.
 pub record AreRerunAccepted (line : RerunLine) (before : World) : Type 0 where
   pub memo : IsAcceptedMemo line.memo before
   pub lists : List (List ℕ)
@@ -49,8 +50,8 @@ pub record AreRerunAccepted (line : RerunLine) (before : World) : Type 0 where
   pub inputs : List (List ℕ)
   pub edited : AreRerunInputs memo.history.setup.input lists inputs
 
--- The files of a line that replays a schedule are told and within their limits; the executable is accepted; and the
--- schedule says threads that are permitted from scratch and come to an end.
+-- The contents of the files of a `replay` command are stated and within their limits; the executable is accepted; and
+-- the schedule encodes threads that are permitted from scratch and come to an end.
 pub record IsReplayAccepted (line : ReplayLine) (before : World) : Type 0 where
   pub contents : ReplayContents
   pub elf : before.files line.elf ≡ Some contents.elf
@@ -60,8 +61,8 @@ pub record IsReplayAccepted (line : ReplayLine) (before : World) : Type 0 where
   pub threads : List ℕ
   pub can : CanBeReplayed (replay_setup_of line contents) contents.schedule threads
 
--- A line's rounds were all printed, and the memo that it asks for was written, unless that would be too long; or the
--- host's memory ran out.
+-- The reports of all rounds were printed, and the memo that the command line requests was written, unless that would be
+-- too long; or the host's memory ran out.
 abbrev pub IsCompleted : Line → World → World → ℕ → Type 0
 IsCompleted line before after answer =
     (answer ≡ code_of status.Finished)
@@ -69,12 +70,12 @@ IsCompleted line before after answer =
     ⊎ ((answer ≡ code_of status.Memory)
     ⊎ ((answer ≡ code_of status.TooLarge) × IsTooLargeToKeep line before after)))
 
--- What a line asks for was printed whole, or the host's memory ran out.
+-- The text of a `replay` or `gen` command was printed whole, or the host's memory ran out.
 abbrev pub IsTold : ℕ → Type 0
 IsTold answer =
     (answer ≡ code_of status.Finished) ⊎ ((answer ≡ code_of status.Unfinished) ⊎ (answer ≡ code_of status.Memory))
 
--- All was printed that a line asks for which runs nothing to an end, or the host's memory ran out.
+-- The text of a `show`, `why` or `races` command was printed whole, or the host's memory ran out.
 abbrev pub IsListed : ℕ → Type 0
 IsListed answer = (answer ≡ code_of status.Finished) ⊎ (answer ≡ code_of status.Memory)
 
@@ -83,7 +84,8 @@ abbrev pub IsJudged : ℕ → Type 0
 IsJudged answer =
     (answer ≡ code_of status.Finished) ⊎ ((answer ≡ code_of status.Untrue) ⊎ (answer ≡ code_of status.Memory))
 
--- Where nothing stands in its way, a line is done, or the host's memory ran out.
+-- If its files are stated and accepted and the host fails at no call, a command line is done, or the host's memory ran
+-- out.
 abbrev pub Completes : Option Line → World → World → ℕ → Type 0
 Completes None before after answer = Unit {0}
 Completes (Some (Runs line)) before after answer =

@@ -1,4 +1,4 @@
--- How a call of the program may end: for each status what was read, what was printed, what stays, and what caused it.
+-- How a call of the program may end: for each status what was read, what was printed, what is unchanged, and the cause.
 use Rattle.std.specs.Prelude.{◌≡◌, ◌≢◌, ℕ, ◌<◌, ◌≤◌, Bool, true, false, ◌⊎◌, List, [], ◌∷◌, ◌++◌, All, IfSome, length, map, take, slice_get, codes, decimal, Option, Some, None, Ok, Err}
 use Rattle.std.specs.List.{concat}
 use Rattle.std.specs.Io.KnownBytes.{Appends}
@@ -32,10 +32,10 @@ use Rattle.ith_top.specs.Rounds.{rounds_of, BeginsHonestly, ArePromised, CanBeKe
 use Rattle.ith_top.specs.Explaining.{explained_round, AreTheReasons, why_of}
 use Rattle.ith_top.specs.Statuses.{code_of}
 
--- What a line's rounds come from, the schedules that its workers found of the first of them, and what is promised of
--- these rounds: so many workers made each of them; if the progress is asked for, each report tells what was read of it,
--- of which the last is how many steps the round has; they are from scratch where they begin with no history or with an
--- honest one; and whatever they begin with, each has an end, and what it leaves can be encoded.
+-- The plan of a command line's rounds, the schedules that its workers found of the first of them, and the promises on
+-- these rounds: this many workers made each of them; if the progress is requested, each report states what was read of
+-- it, of which the last number is how many steps the round has; they are from scratch if they begin with no history or
+-- with an honest one; and whatever they begin with, each has an end, and its history can be encoded.
 pub record HasRounds (line : Line) (before : World) : Type 0 where
   pub plan : Plan
   pub is_plan : IsPlan line before plan
@@ -46,45 +46,45 @@ pub record HasRounds (line : Line) (before : World) : Type 0 where
   pub promised : BeginsHonestly plan.beginning → ArePromised (workers_of line) (rounds_of plan found)
   pub kept : All CanBeKept (rounds_of plan found)
 
--- The rounds of a line were all made.
+-- All rounds of a command line were made.
 abbrev pub HasAll : (line : Line) (before : World) → HasRounds line before → Type 0
 HasAll line before has = length has.found ≡ length has.plan.inputs
 
--- The texts that tell of a plan's rounds as they were made, in order: where it is promised that these are from scratch,
--- they are the rounds' reports.
+-- The reports of a plan's rounds as they were made, in order. If the rounds are promised to be from scratch, these are
+-- the reports of the machine from scratch.
 abbrev pub texts_of : Plan → List Found → List (List ℕ)
 texts_of p found = made_reports (rounds_of p found)
 
--- What the last round of a plan leaves.
+-- The history of the last round of a plan.
 abbrev pub left_of : Plan → List Found → History
 left_of p found = last_left p.beginning p.inputs found
 
--- The name of the memo that a line asks to write, if it does.
+-- The name of the memo that a command line requests to write, if it does.
 abbrev pub new_memo_of : Line → Option Text
 new_memo_of (Runs line) = line.new_memo
 new_memo_of (Reruns line) = line.new_memo
 new_memo_of _ = None
 
--- Of the files nothing changed, and these bytes were printed.
+-- No file changed, and these bytes were printed.
 pub record Prints (before after : World) (bytes : List ℕ) : Type 0 where
   pub tells : after.tells ≡ before.tells
   pub files : after.files ≡ before.files
   pub printed : Appends before.printed after.printed bytes
 
--- These bytes were printed; the file of a name, if there is one, was made to hold this content, and of the other files
--- nothing changed.
+-- These bytes were printed; this content was written to the file of the name, if there is one; and no other file
+-- changed.
 pub record PrintsAndKeeps (name : Option Text) (content : List ℕ) (before after : World) (bytes : List ℕ) : Type 0 where
   pub tells : after.tells ≡ before.tells
   pub printed : Appends before.printed after.printed bytes
   pub written : IfSome name (λ n. Holds after n content)
   pub others : (other : Text) → IfSome name (λ n. other ≢ n) → after.files other ≡ before.files other
 
--- A memo of this content, where it has a name, is no longer than a memo may be.
+-- A memo of this content, if it has a name, is no longer than a memo may be.
 abbrev pub IsKeptWithin : Option Text → List ℕ → Type 0
 IsKeptWithin name content = IfSome name (λ n. length content ≤ MOST_MEMO_BYTES)
 
--- All is done: exactly the texts of all rounds were printed; the memo of what the last one leaves was written where the
--- line asks for it; and whether each round ended by exit.
+-- All is done: exactly the reports of all rounds were printed; the memo of the last one was written, if the command
+-- line requests it; and whether each round ended by exit.
 pub record IsDone (line : Line) (exits : Bool) (before after : World) : Type 0 where
   pub asked : AsksForFiles (files_named line) before after
   pub has : HasRounds line before
@@ -159,7 +159,7 @@ pub record OneUnread (files : List Named) (before after : World) : Type 0 where
   pub stops : StopsAt (FailedToRead before after) files before after
   pub stays : Stays before after
 
--- The same of the files that a line names.
+-- The same of the files that a command line names.
 abbrev pub IsUnread : Line → World → World → Type 0
 IsUnread line before after = OneUnread (files_named line) before after
 
@@ -168,11 +168,12 @@ pub record OneTooLarge (files : List Named) (before after : World) : Type 0 wher
   pub stops : StopsAt (IsLong before) files before after
   pub stays : Stays before after
 
--- The same of the files that a line names.
+-- The same of the files that a command line names.
 abbrev pub IsTooLarge : Line → World → World → Type 0
 IsTooLarge line before after = OneTooLarge (files_named line) before after
 
--- All reports were printed, and the memo that the line asks for is longer than a memo may be: no file was written.
+-- All reports were printed, and the memo that the command line requests is longer than a memo may be: no file was
+-- written.
 pub record IsTooLargeToKeep (line : Line) (before after : World) : Type 0 where
   pub asked : AsksForFiles (files_named line) before after
   pub has : HasRounds line before
@@ -182,7 +183,7 @@ pub record IsTooLargeToKeep (line : Line) (before after : World) : Type 0 where
   pub long : MOST_MEMO_BYTES < length (memo (left_of has.plan has.found))
   pub prints : Prints before after (concat (texts_of has.plan has.found))
 
--- Printing failed: of some texts the first so many were printed, and the first bytes of the next, any number of them.
+-- Printing failed: the first of some texts were printed, and the first bytes of the next, any number of them.
 pub record IsPrintedInPart (texts : List (List ℕ)) (before after : World) : Type 0 where
   pub cause : Rose before.print_faults after.print_faults
   pub whole : ℕ
@@ -191,14 +192,14 @@ pub record IsPrintedInPart (texts : List (List ℕ)) (before after : World) : Ty
   pub count : ℕ
   pub prints : Prints before after (concat (take whole texts) ++ take count next)
 
--- Printing failed, and the texts of the first rounds were printed, and of the next one's, which was made, a part.
+-- Printing failed: the reports of the first rounds were printed, and a part of that of the next one, which was made.
 pub record IsUnprinted (line : Line) (before after : World) : Type 0 where
   pub asked : AsksForFiles (files_named line) before after
   pub has : HasRounds line before
   pub part : IsPrintedInPart (texts_of has.plan has.found) before after
 
--- All reports were printed, and writing the memo, which isn't too long, failed: that file isn't told, and of the others
--- nothing changed.
+-- All reports were printed, and writing the memo, which isn't too long, failed: the content of its file isn't stated,
+-- and no other file changed.
 pub record IsUnkept (line : Line) (before after : World) : Type 0 where
   pub asked : AsksForFiles (files_named line) before after
   pub has : HasRounds line before
@@ -217,18 +218,18 @@ pub record SomeRead (files : List Named) (before after : World) : Type 0 where
   pub asked : AsksForSome files before after
   pub stays : Stays before after
 
--- The host's memory ran out before a round of a line was made, and nothing was printed.
+-- The host's memory ran out before a round was made, and nothing was printed.
 abbrev pub IsUnbegun : Line → World → World → Type 0
 IsUnbegun line before after = SomeRead (files_named line) before after
 
--- The host's memory ran out, and the texts of the first rounds, of none to all of them, were printed; no file was
+-- The host's memory ran out, and the reports of the first rounds, of none to all of them, were printed; no file was
 -- written.
 pub record IsCutShort (line : Line) (before after : World) : Type 0 where
   pub asked : AsksForFiles (files_named line) before after
   pub has : HasRounds line before
   pub prints : Prints before after (concat (texts_of has.plan has.found))
 
--- The text of what a line's files hold: exactly this was printed.
+-- Exactly the text that follows from the contents of the files of a command line was printed.
 pub record PrintsText (line : Line) (Has : Type 0) (text : Has → List ℕ) (before after : World) : Type 0 where
   pub asked : AsksForFiles (files_named line) before after
   pub has : Has
@@ -240,7 +241,7 @@ pub record PrintsTextInPart (line : Line) (Has : Type 0) (text : Has → List �
   pub has : Has
   pub part : IsPrintedInPart (text has ∷ []) before after
 
--- The memo of a name was accepted, and is of this history.
+-- The memo of this name is accepted, and is of this history.
 pub record HasHistory (name : Text) (before : World) : Type 0 where
   pub history : History
   pub remembered : IsRemembered before name history
@@ -255,29 +256,28 @@ abbrev pub IsUnshown : ShowLine → World → World → Type 0
 IsUnshown line before after =
     PrintsTextInPart (Shows line) (HasHistory line.memo before) (λ has. listing has.history) before after
 
--- The lines that tell of the audit of a history: how many records it has, how many turns their thunks make, and the
--- verdict.
+-- The lines of the audit of a history: how many records it has, how many turns their thunks have, and the verdict.
 abbrev pub audit_of : History → Option ℕ → List ℕ
 audit_of h place = audit_text (length h.records) (turns_of h) place
 
--- The memo of a name was accepted, and this verdict of its audit is right.
+-- The memo of this name is accepted, and this verdict of its audit is right.
 pub record HasVerdict (name : Text) (place : Option ℕ) (before : World) : Type 0 where
   pub history : History
   pub remembered : IsRemembered before name history
   pub verdict : IsVerdict history place
 
--- A memo was audited, with this verdict, which is right: exactly the lines that tell of it were printed.
+-- A memo was audited, with this verdict, which is right: exactly the lines of the audit were printed.
 abbrev pub IsAudited : AuditLine → Option ℕ → World → World → Type 0
 IsAudited line place before after =
     PrintsText (Audits line) (HasVerdict line.memo place before) (λ has. audit_of has.history place) before after
 
--- Printing failed, and the first bytes of the lines that tell of the audit were printed, any number of them.
+-- Printing failed, and the first bytes of the lines of the audit were printed, any number of them.
 abbrev pub IsUnaudited : AuditLine → World → World → Type 0
 IsUnaudited line before after =
     PrintsTextInPart (Audits line) ((place : Option ℕ) × HasVerdict line.memo place before)
     (λ has. audit_of has.1.history has.0) before after
 
--- The executable of a line that replays a schedule is refused, and nothing was printed.
+-- The executable of a `replay` command is refused, and nothing was printed.
 pub record IsReplayImageRefused (line : ReplayLine) (before after : World) : Type 0 where
   pub asked : AsksForFiles (files_named (Replays line)) before after
   pub contents : ReplayContents
@@ -292,8 +292,8 @@ pub data ScheduleRefusal : Type 0 where
   Entry : ℕ → ScheduleRefusal
   Incomplete : ScheduleRefusal
 
--- A schedule is refused where it is replayed: by the first token of its text that encodes no thread; where there is
--- none by the first entry that isn't permitted from scratch; and where all are permitted since none of them comes to an
+-- The schedule of a replay is refused: by the first token of its text that encodes no thread; if there is no such
+-- token, by the first entry that isn't permitted from scratch; and if all entries are permitted, since they come to no
 -- end.
 abbrev pub RefusesSchedule : Setup → List ℕ → ScheduleRefusal → Type 0
 RefusesSchedule setup text (Token i) = Says text (Err i)
@@ -311,33 +311,33 @@ pub record IsScheduleRefused (line : ReplayLine) (before after : World) : Type 0
   pub refused : RefusesSchedule (replay_setup_of line contents) contents.schedule why
   pub stays : Stays before after
 
--- What a line replays: its files were read, the executable is accepted, and the schedule's tokens say these threads,
--- which are permitted from scratch and come to an end.
+-- The replay that a command line requests: its files were read, the executable is accepted, and the schedule's tokens
+-- encode these threads, which are permitted from scratch and come to an end.
 pub record HasReplay (line : ReplayLine) (before : World) : Type 0 where
   pub contents : ReplayContents
   pub read : WasReplayRead line before contents
   pub threads : List ℕ
   pub can : CanBeReplayed (replay_setup_of line contents) contents.schedule threads
 
--- The text that tells of a replay: what the machine from scratch came to under the schedule that the file says.
+-- The text of a replay: the outcome of the machine from scratch under the schedule that the file encodes.
 abbrev pub text_of_replay : (line : ReplayLine) (before : World) → HasReplay line before → List ℕ
 text_of_replay line before has = replay_of (replay_setup_of line has.contents) has.threads
 
--- The schedule is replayed: exactly the text that tells of it was printed; and whether the machine from scratch ended
--- by exit.
+-- The schedule is replayed: exactly the text of the replay was printed; and whether the machine from scratch ended by
+-- exit.
 pub record IsReplayed (line : ReplayLine) (exits : Bool) (before after : World) : Type 0 where
   pub asked : AsksForFiles (files_named (Replays line)) before after
   pub has : HasReplay line before
   pub prints : Prints before after (text_of_replay line before has)
   pub ends : is_exit (scratch (replay_setup_of line has.contents) has.threads).ending ≡ exits
 
--- Printing failed, and the first bytes of the text that tells of the replay were printed, any number of them.
+-- Printing failed, and the first bytes of the text of the replay were printed, any number of them.
 abbrev pub IsUnreplayed : ReplayLine → World → World → Type 0
 IsUnreplayed line before after =
     PrintsTextInPart (Replays line) (HasReplay line before) (text_of_replay line before) before after
 
--- The round that a line explains: the memo and the edit list were read and accepted, which makes the plan of a rerun;
--- the list makes the one input of it; and what is promised of the reasons for which its steps were executed.
+-- The round that a `why` command explains: the memo and the edit list were read and accepted, which makes the plan of a
+-- rerun; the list makes its one input; and the promises on the reasons why its steps were executed.
 pub record HasReasons (line : ExplainLine) (before : World) : Type 0 where
   pub plan : Plan
   pub is_plan : IsPlan (Explains line) before plan
@@ -345,11 +345,11 @@ pub record HasReasons (line : ExplainLine) (before : World) : Type 0 where
   pub one : plan.inputs ≡ input ∷ []
   pub are : AreTheReasons plan.beginning input
 
--- The text that tells of these reasons.
+-- The text of these reasons.
 abbrev pub text_of_reasons : (line : ExplainLine) (before : World) → HasReasons line before → List ℕ
 text_of_reasons line before has = why_of (explained_round has.plan.beginning has.input)
 
--- It is told why steps were executed: exactly the text of the reasons was printed.
+-- A `why` command is done: exactly the text of the reasons was printed.
 abbrev pub IsExplained : ExplainLine → World → World → Type 0
 IsExplained line before after =
     PrintsText (Explains line) (HasReasons line before) (text_of_reasons line before) before after
@@ -363,7 +363,7 @@ IsUnexplained line before after =
 abbrev pub text_of_races : (line : RacesLine) (before : World) → HasHistory line.memo before → List ℕ
 text_of_races line before has = races_listing MOST_RACES has.history
 
--- It is told which steps race: exactly the lines of the races of the memo's history were printed.
+-- A `races` command is done: exactly the lines of the races of the memo's history were printed.
 abbrev pub IsRaced : RacesLine → World → World → Type 0
 IsRaced line before after =
     PrintsText (FindsRaces line) (HasHistory line.memo before) (text_of_races line before) before after
@@ -373,13 +373,13 @@ abbrev pub IsUnraced : RacesLine → World → World → Type 0
 IsUnraced line before after =
     PrintsTextInPart (FindsRaces line) (HasHistory line.memo before) (text_of_races line before) before after
 
--- The text that tells of the rounds of the generated guest: a line with the number, and a line for each round, of the
--- machine from scratch.
+-- The text on the rounds of the generated guest: a line with the number, and a line for each round, of the machine from
+-- scratch.
 abbrev pub generated_text : ℕ → List Round → List ℕ
 generated_text number rounds = text_line (codes "gen") (decimal number) ++ concat (map short_of rounds)
 
--- The generated guest was run: both rounds were made, and exactly the text that tells of them was printed; and whether
--- each ended by exit.
+-- The generated guest was run: both rounds were made, exactly the text on them was printed, and whether each ended by
+-- exit.
 pub record IsGenerated (line : GenerateLine) (exits : Bool) (before after : World) : Type 0 where
   pub asked : AsksNothing before after
   pub has : HasRounds (Generates line) before
@@ -387,20 +387,20 @@ pub record IsGenerated (line : GenerateLine) (exits : Bool) (before after : Worl
   pub prints : Prints before after (generated_text line.number (rounds_of has.plan has.found))
   pub ends : all_exit (rounds_of has.plan has.found) ≡ exits
 
--- Printing failed, and the first bytes of the text that tells of both rounds were printed, any number of them.
+-- Printing failed, and the first bytes of the text on both rounds were printed, any number of them.
 pub record IsUngenerated (line : GenerateLine) (before after : World) : Type 0 where
   pub asked : AsksNothing before after
   pub has : HasRounds (Generates line) before
   pub all : HasAll (Generates line) before has
   pub part : IsPrintedInPart (generated_text line.number (rounds_of has.plan has.found) ∷ []) before after
 
--- A line's executable is refused.
+-- The executable of a command line is refused.
 abbrev pub RefusesImage : Line → World → World → Type 0
 RefusesImage (Runs line) before after = IsImageRefused line before after
 RefusesImage (Replays line) before after = IsReplayImageRefused line before after
 RefusesImage _ before after = ⊥
 
--- A line's memo is refused.
+-- The memo of a command line is refused.
 abbrev pub RefusesMemo : Line → World → World → Type 0
 RefusesMemo (Reruns line) before after = IsRerunMemoRefused line before after
 RefusesMemo (Shows line) before after = IsMemoRefused line before after
@@ -409,15 +409,15 @@ RefusesMemo (FindsRaces line) before after = IsMemoRefused (as_show line.memo) b
 RefusesMemo (Audits line) before after = IsMemoRefused (as_show line.memo) before after
 RefusesMemo _ before after = ⊥
 
--- An edit list of a line is refused.
+-- An edit list of a command line is refused.
 abbrev pub RefusesList : Line → World → World → Type 0
 RefusesList (Runs line) before after = IsListRefused line before after
 RefusesList (Reruns line) before after = IsRerunListRefused line before after
 RefusesList (Explains line) before after = IsRerunListRefused (as_rerun line) before after
 RefusesList _ before after = ⊥
 
--- How a line of these files may end before anything is made for it, status by status: a file isn't read or is refused,
--- or the host's memory ran out.
+-- How a command line with these files may end before it prints anything, status by status: a file isn't read or is
+-- refused, or the host's memory ran out.
 abbrev pub EndsBy : List Named → (image memo list : Type 0) → World → World → Status → Type 0
 EndsBy files image memo list before after status.Image = image
 EndsBy files image memo list before after status.Memo = memo
@@ -427,13 +427,13 @@ EndsBy files image memo list before after status.Memory = SomeRead files before 
 EndsBy files image memo list before after status.TooLarge = OneTooLarge files before after
 EndsBy files image memo list before after _ = ⊥
 
--- How a line may end before anything is made for it.
+-- How a command line may end before it prints anything.
 abbrev pub EndsEarly : Line → World → World → Status → Type 0
 EndsEarly line before after s =
     EndsBy (files_named line) (RefusesImage line before after) (RefusesMemo line before after)
     (RefusesList line before after) before after s
 
--- How else a line that asks for rounds may end, status by status.
+-- How else a `run` or `rerun` command may end, status by status.
 abbrev pub RoundsEnd : Line → World → World → Status → Type 0
 RoundsEnd line before after status.Finished = IsDone line true before after
 RoundsEnd line before after status.Unfinished = IsDone line false before after
@@ -442,33 +442,33 @@ RoundsEnd line before after status.Memory = IsCutShort line before after
 RoundsEnd line before after status.TooLarge = IsTooLargeToKeep line before after
 RoundsEnd line before after _ = ⊥
 
--- How a line ends of which one text was made, status by status: it was printed, or a part of it was.
+-- How a command ends whose one text was made, status by status: the text was printed, or a part of it was.
 abbrev pub TextEnds : (whole part : Type 0) → Status → Type 0
 TextEnds whole part status.Finished = whole
 TextEnds whole part status.WriteFault = part
 TextEnds whole part _ = ⊥
 
--- How else a line that shows a memo may end.
+-- How else a `show` command may end.
 abbrev pub ShowEnds : ShowLine → World → World → Status → Type 0
 ShowEnds line before after s = TextEnds (IsShown line before after) (IsUnshown line before after) s
 
--- How else a line that tells why steps were executed may end; however the round ended.
+-- How else a `why` command may end; this doesn't depend on how the round ended.
 abbrev pub ExplainEnds : ExplainLine → World → World → Status → Type 0
 ExplainEnds line before after s = TextEnds (IsExplained line before after) (IsUnexplained line before after) s
 
--- How else a line that tells which steps race may end.
+-- How else a `races` command may end.
 abbrev pub RacesEnd : RacesLine → World → World → Status → Type 0
 RacesEnd line before after s = TextEnds (IsRaced line before after) (IsUnraced line before after) s
 
--- How else a line that audits a memo may end, status by status: as finished where the memo is honest, and as untrue
--- where one of its records is the first false one.
+-- How else an `audit` command may end, status by status: as finished if the memo is honest, and as untrue if one of its
+-- records is the first false one.
 abbrev pub AuditEnds : AuditLine → World → World → Status → Type 0
 AuditEnds line before after status.Finished = IsAudited line None before after
 AuditEnds line before after status.WriteFault = IsUnaudited line before after
 AuditEnds line before after status.Untrue = (place : ℕ) × IsAudited line (Some place) before after
 AuditEnds line before after _ = ⊥
 
--- How else a line that replays a schedule may end, status by status.
+-- How else a `replay` command may end, status by status.
 abbrev pub ReplayEnds : ReplayLine → World → World → Status → Type 0
 ReplayEnds line before after status.Finished = IsReplayed line true before after
 ReplayEnds line before after status.Unfinished = IsReplayed line false before after
@@ -476,14 +476,14 @@ ReplayEnds line before after status.WriteFault = IsUnreplayed line before after
 ReplayEnds line before after status.Schedule = IsScheduleRefused line before after
 ReplayEnds line before after _ = ⊥
 
--- How else a line that runs the generated guest may end, status by status.
+-- How else a `gen` command may end, status by status.
 abbrev pub GenerateEnds : GenerateLine → World → World → Status → Type 0
 GenerateEnds line before after status.Finished = IsGenerated line true before after
 GenerateEnds line before after status.Unfinished = IsGenerated line false before after
 GenerateEnds line before after status.WriteFault = IsUngenerated line before after
 GenerateEnds line before after _ = ⊥
 
--- How else a line may end, status by status.
+-- How else a command line may end, status by status.
 abbrev pub EndsLate : Line → World → World → Status → Type 0
 EndsLate (Runs line) before after s = RoundsEnd (Runs line) before after s
 EndsLate (Reruns line) before after s = RoundsEnd (Reruns line) before after s
@@ -494,16 +494,17 @@ EndsLate (FindsRaces line) before after s = RacesEnd line before after s
 EndsLate (Audits line) before after s = AuditEnds line before after s
 EndsLate (Generates line) before after s = GenerateEnds line before after s
 
--- Nothing was printed, and no file was asked for.
+-- Nothing was printed, no file changed, and no read was requested.
 pub record DoesNothing (before after : World) : Type 0 where
   pub stays : Stays before after
   pub asked : AsksNothing before after
 
--- How a call may end: words that aren't accepted do nothing; and a line ends before anything is made for it, or later.
+-- How a call may end: if the arguments aren't accepted, it does nothing; a command line ends before it prints anything,
+-- or later.
 abbrev pub Ends : Option Line → World → World → Status → Type 0
 Ends None before after s = ((s ≡ status.Words) ⊎ (s ≡ status.Memory)) × DoesNothing before after
 Ends (Some line) before after s = EndsEarly line before after s ⊎ EndsLate line before after s
 
--- An answer is the number of a status by which the call may end.
+-- An exit status is the number of a status by which the call may end.
 abbrev pub Answers : Option Line → World → World → ℕ → Type 0
 Answers line before after answer = (s : Status) × (answer ≡ code_of s) × Ends line before after s

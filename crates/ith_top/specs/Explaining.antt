@@ -12,12 +12,12 @@ use Rattle.ith_top.specs.Rounds.{BeginsHonestly}
 abbrev pub explained_round : Beginning → List ℕ → RoundState
 explained_round b input = lone_round (with_input b.setup input) b.past
 
--- The text that tells why the executed steps of a round were executed.
+-- The text that says why the executed steps of a round were executed.
 abbrev pub why_of : RoundState → List ℕ
 why_of w = why_text (reasons_of w)
 
--- What is promised of the reasons of this round: each executed step has one, in order, and no other step has; and where
--- the round goes by an honest history, they are told by the machine from scratch.
+-- The promises on the reasons of this round: each executed step has one, in order, and no other step has; and if the
+-- round is based on an honest history, they are those of the machine from scratch.
 pub record AreTheReasons (b : Beginning) (input : List ℕ) : Type 0 where
   pub each :
       map (λ (r : Reason). r.step) (reasons_of (explained_round b input))

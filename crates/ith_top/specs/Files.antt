@@ -1,4 +1,4 @@
--- The files that a line names to read, and how far a call read them.
+-- The files that a command line names to read, and how far a call read them.
 use Rattle.std.specs.Prelude.{◌≡◌, ℕ, ◌<◌, ◌≤◌, List, [], ◌∷◌, ◌++◌, All, length, map, IfSome}
 use Rattle.elf_spec.specs.declared.TheConstants.{MOST_ELF_BYTES}
 use Rattle.edit_spec.specs.declared.TheConstants.{MOST_LIST_BYTES}
@@ -8,7 +8,7 @@ use Rattle.ith_host.specs.World.{World, Rose, NoneFell, Stays, AsksFor, AsksNoth
 use Rattle.schedule_list.specs.declared.TheConstants.{MOST_SCHEDULE_BYTES}
 use Rattle.ith_words.specs.Words.{Text, Line, Runs, Reruns, Replays, Shows, Explains, FindsRaces, Audits, Generates}
 
--- A file that a line names to read: its name, and the most bytes that it may have.
+-- A file that a command line names to read: its name, and the most bytes that it may have.
 pub record Named : Type 0 where
   pub name : Text
   pub most : ℕ
@@ -33,7 +33,7 @@ schedule_named name = record { name = name; most = MOST_SCHEDULE_BYTES }
 abbrev pub lists_named : List Text → List Named
 lists_named names = map (λ name. record { name = name; most = MOST_LIST_BYTES }) names
 
--- The files that a line names to read, in the order in which they are read.
+-- The files that a command line names to read, in the order in which they are read.
 abbrev pub files_named : Line → List Named
 files_named (Runs line) = elf_named line.elf ∷ input_named line.input ∷ lists_named line.edits
 files_named (Reruns line) = memo_named line.memo ∷ lists_named line.edits
@@ -44,18 +44,18 @@ files_named (FindsRaces line) = memo_named line.memo ∷ []
 files_named (Audits line) = memo_named line.memo ∷ []
 files_named (Generates line) = []
 
--- These files were asked for, in order, and no other.
+-- Reads of these files were requested, in order, and of no other.
 abbrev pub AsksForFiles : List Named → World → World → Type 0
 AsksForFiles files before after = AsksFor (map (λ file. file.name) files) before after
 
--- These files were asked for, in order, and no other; and nothing else happened: no file changed, nothing was printed,
--- and no count of faults fell.
+-- Reads of these files were requested, in order, and of no other; and nothing else happened: no file changed, nothing
+-- was printed, and no count of faults fell.
 pub record Reads (files : List Named) (before after : World) : Type 0 where
   pub asked : AsksForFiles files before after
   pub stays : Stays before after
   pub counts : NoneFell before after
 
--- Nothing happened: no file was asked for or changed, nothing was printed, and no count of faults fell.
+-- Nothing happened: no read was requested, no file changed, nothing was printed, and no count of faults fell.
 pub record Quiet (before after : World) : Type 0 where
   pub asked : AsksNothing before after
   pub stays : Stays before after
@@ -65,22 +65,22 @@ pub record Quiet (before after : World) : Type 0 where
 abbrev pub FailedToRead : World → World → Named → Type 0
 FailedToRead before after file = Rose (before.read_faults file.name) (after.read_faults file.name)
 
--- A file is longer than its limit, where it is told.
+-- A file is longer than its limit, if its content is stated.
 abbrev pub IsLong : World → Named → Type 0
 IsLong before file = IfSome (before.files file.name) (λ told. file.most < length told)
 
--- A file is within its limit, where it is told.
+-- A file is within its limit, if its content is stated.
 abbrev pub IsWithin : World → Named → Type 0
 IsWithin before file = IfSome (before.files file.name) (λ told. length told ≤ file.most)
 
--- Of these files some first ones were asked for, none to all of them.
+-- Reads of the first of these files were requested, of none to all of them.
 pub record AsksForSome (files : List Named) (before after : World) : Type 0 where
   pub first : List Named
   pub later : List Named
   pub are : files ≡ first ++ later
   pub asked : AsksForFiles first before after
 
--- Of these files one was refused for a cause: it was asked for after those before it, which are within their limits,
+-- One of these files was refused for a cause: it was requested after those before it, which are within their limits,
 -- and none after it was.
 pub record StopsAt (IsRefused : Named → Type 0) (files : List Named) (before after : World) : Type 0 where
   pub earlier : List Named

@@ -33,7 +33,7 @@ use Rattle.ith_top.specs.Counting.{Work, IsCounted, turns_for}
 use Rattle.ith_top.specs.Explaining.{explained_round, why_of}
 use Rattle.ith_top.specs.Ends.{Prints, PrintsAndKeeps, IsKeptWithin, texts_of, left_of, generated_text}
 
--- What a round begins with in code, as a beginning of the definitions.
+-- A beginning in code, as one of the definitions.
 abbrev pub beginning_said : Begun → Beginning
 beginning_said b =
     record { number = b.number; past = option_map arc_value b.past; setup = b.setup; asked = b.asked }
@@ -43,7 +43,7 @@ abbrev pub plan_said : Planned → Plan
 plan_said p = record { beginning = beginning_said p.beginning; inputs = p.inputs }
 
 -- A plan whose rounds can be made: there is an input; each is as short as an input may be; the rounds can be numbered;
--- and a history that the first goes by is of the same page map.
+-- and the history that the first is based on, if there is one, is of the same page map.
 pub record CanBePlayed (p : Plan) : Type 0 where
   pub some : 0 < length p.inputs
   pub short : AreShort p.inputs
@@ -57,31 +57,32 @@ pub record CanBeEncoded (p : Plan) : Type 0 where
   pub inputs : All AreBytes p.inputs
   pub past : IsEncodedPast p.beginning.past p.beginning.setup
 
--- This is a plan of a line, whose rounds can be made and kept; all files of the line were read for it.
+-- This is a plan of a command line, whose rounds can be made and encoded; all files of the command line were read for
+-- it.
 pub record IsPrepared (line : Line) (before after : World) (p : Plan) : Type 0 where
   pub is : IsPlan line before p
   pub playable : CanBePlayed p
   pub encoded : CanBeEncoded p
   pub reads : Reads (files_named line) before after
 
--- What there is to tell of a round that workers made, with the lines that are asked for.
+-- The data of the report on a round that workers made, with the optional lines that are requested.
 abbrev pub data_of_made : Asked → MadeRound → ReportData
 data_of_made asked r =
     data_as_made r.round (extras_of asked r.round.past r.round.setup r.progress.items) r.worker_steps.items
 
--- The text that tells of a round in this way, what is told of it.
+-- The text that reports a round in this way, by its data.
 abbrev pub text_by : Telling → ℕ → ReportData → List ℕ
 text_by telling.Report number told = report_text number told
 text_by telling.Line number told = short_text number told
 
--- The text that tells of a round in this way, as it was made.
+-- The text that reports a round in this way, as it was made.
 abbrev pub told_by : Telling → Round → List ℕ
 told_by telling.Report r = made_report r
 told_by telling.Line r = made_short r
 
--- So many workers made a round of this beginning, on this input, and it was watched if that is asked for: what they
--- executed is counted, from so many turns to so many; the text that tells of it in this way, whether it ended by exit,
--- and what the next round begins with.
+-- This many workers made a round from this beginning, on this input, and it was watched if its progress is requested:
+-- the turns that they executed are counted, from `earlier` to `later`; the text that reports it in this way, whether it
+-- ended by exit, and the beginning of the next round.
 pub record IsMadeOn (workers : ℕ) (way : Telling) (b : Beginning) (input : List ℕ) (earlier later : ℕ) (text : List ℕ)
     (exit : Bool) (next : Beginning) : Type 0
   where
@@ -94,16 +95,16 @@ pub record IsMadeOn (workers : ℕ) (way : Telling) (b : Beginning) (input : Lis
     pub is_exit : exit ≡ made_exits (round_on b input found)
     pub is_next : next ≡ after_round b input found
 
--- So many workers found these schedules of the first rounds of a plan, one of each, which were watched if that is asked
--- for.
+-- This many workers found these schedules of the first rounds of a plan, one of each, which were watched if the
+-- progress is requested.
 pub record AreFound (workers : ℕ) (p : Plan) (found : List Found) : Type 0 where
   pub few : length found ≤ length p.inputs
   pub made : All (IsMade workers) (rounds_of p found)
   pub watched : All (IsWatched workers) (rounds_of p found)
   pub counted : All (IsCounted workers) (rounds_of p found)
 
--- All rounds of a plan were made by so many workers, and no other: what is counted rose by these rounds and their
--- turns; exactly the texts of these rounds were printed; whether each ended by exit, and what the last one leaves.
+-- This many workers made all rounds of a plan, and no other: the counts rose by these rounds and their turns; exactly
+-- the reports of these rounds were printed; whether each ended by exit, and the history of the last one.
 pub record IsPlayed (workers : ℕ) (p : Plan) (before after : World) (earlier later : Work) (exits : Bool) (left : History)
     : Type 0
   where
@@ -116,9 +117,9 @@ pub record IsPlayed (workers : ℕ) (p : Plan) (before after : World) (earlier l
     pub are_exits : all_made_exit (rounds_of p found) ≡ exits
     pub is_left : left ≡ left_of p found
 
--- All rounds of a plan were made by so many workers, and no other: what is counted rose by these rounds and their
--- turns; exactly the texts of these rounds were printed, and the memo of what the last one leaves was written, if it
--- has a name; and whether each ended by exit.
+-- This many workers made all rounds of a plan, and no other: the counts rose by these rounds and their turns; exactly
+-- the reports of these rounds were printed, and the memo of the last one was written, if it has a name; and whether
+-- each ended by exit.
 pub record IsCarriedOut (name : Option Text) (workers : ℕ) (p : Plan) (before after : World) (earlier later : Work) (exits : Bool)
     : Type 0
   where
@@ -131,8 +132,8 @@ pub record IsCarriedOut (name : Option Text) (workers : ℕ) (p : Plan) (before 
     pub within : IsKeptWithin name (memo (left_of p found))
     pub are_exits : all_made_exit (rounds_of p found) ≡ exits
 
--- What a line asks for that replays a schedule: its files were read, all of them, and the executable is accepted, of
--- which this is the setup; and this is the text of the schedule.
+-- The request of a `replay` command: all its files were read, the executable is accepted, this is the setup, and this
+-- is the text of the schedule.
 pub record IsAskedReplay (line : ReplayLine) (before after : World) (setup : Setup) (text : List ℕ) : Type 0 where
   pub contents : ReplayContents
   pub read : WasReplayRead line before contents
@@ -140,7 +141,7 @@ pub record IsAskedReplay (line : ReplayLine) (before after : World) (setup : Set
   pub is_text : text ≡ contents.schedule
   pub reads : Reads (files_named (Replays line)) before after
 
--- What there is to tell of a schedule of these entries, by what it came to.
+-- The data of the report on a schedule of these entries, by its outcome.
 abbrev pub data_of_outcome : List Entry → Outcome → ReportData
 data_of_outcome entries o =
     record {
@@ -153,11 +154,11 @@ data_of_outcome entries o =
       output = o.output.items;
     }
 
--- The text that tells of what a schedule came to.
+-- The text that reports the outcome of a schedule.
 abbrev pub TellsOfReplay : List ℕ → Outcome → List ℕ → Type 0
 TellsOfReplay threads o text = text ≡ replay_text (data_of_outcome (all_executed threads) o)
 
--- A setup is this one with the next of some inputs, which is taken out.
+-- A setup is this one with the next of some inputs, which is removed from them.
 pub record IsWithNext (s : Setup) (before after : List (List ℕ)) (next : Setup) : Type 0 where
   pub input : List ℕ
   pub taken : before ≡ input ∷ after
@@ -170,18 +171,18 @@ pub record IsFirstRound (p : Plan) (w : RoundState) : Type 0 where
   pub first : p.inputs ≡ input ∷ later
   pub is : w ≡ explained_round p.beginning input
 
--- A text tells why the executed steps of a round were executed: each of them has a reason, and no other step has, if the
--- round goes by a run that holds together; and if it goes by a sound history, the reasons are told by the machine from
--- scratch.
+-- A text says why the executed steps of a round were executed. Each of them has a reason, and no other step has, if the
+-- history that the round is based on, if any, is coherent and of the round's program and fuel. If it is sound, or if
+-- there is none, the reasons are those of the machine from scratch.
 pub record GivesReasons (w : RoundState) (text : List ℕ) : Type 0 where
   pub is_text : text ≡ why_of w
   pub each :
       GoesByOldRun w.past w.setup → map (λ (r : Reason). r.step) (reasons_of w) ≡ executed_places w.schedule
   pub scratch : IsSound w.past w.setup → reasons_of w ≡ reasons_by (scratch_before w) w
 
--- A text tells why the executed steps were executed of the one round of a plan, as one worker makes it: each of them
--- has a reason, and no other step has, where the round goes by a run that holds together; and where it goes by a sound
--- history, the reasons are told by the machine from scratch.
+-- A text says why the executed steps of the first round of a plan were executed, as one worker makes it. Each of them
+-- has a reason, and no other step has, if the history that the round is based on, if any, is coherent and of the
+-- round's program and fuel. If it is sound, or if there is none, the reasons are those of the machine from scratch.
 pub record TellsReasons (p : Plan) (text : List ℕ) : Type 0 where
   pub input : List ℕ
   pub later : List (List ℕ)
@@ -196,8 +197,8 @@ pub record TellsReasons (p : Plan) (text : List ℕ) : Type 0 where
       → reasons_of (explained_round p.beginning input)
       ≡ reasons_by (scratch_before (explained_round p.beginning input)) (explained_round p.beginning input)
 
--- So many workers made both rounds of the guest that is generated from a number, and no other: what is counted rose by
--- these rounds and their turns; the text that tells of both, and whether each ended by exit.
+-- This many workers made both rounds of the guest that is generated from a number, and no other: the counts rose by
+-- these rounds and their turns; the text on both, and whether each ended by exit.
 pub record AreTheGenerated (workers number : ℕ) (earlier later : Work) (text : List ℕ) (exits : Bool) : Type 0 where
   pub plan : Plan
   pub is_plan : IsGeneratedPlan number plan

@@ -20,7 +20,7 @@ use Rattle.ith_top.specs.Ends.{Prints, IsPrintedInPart, texts_of, left_of, Sched
 use Rattle.ith_top.specs.Counting.{Work}
 use Rattle.ith_top.specs.Playing.{AreFound}
 
--- Why files weren't all read: which one was refused, and what was asked for.
+-- Why files weren't all read: which one was refused, and which reads were requested.
 abbrev pub WhyUnread : List Named → World → World → Status → Type 0
 WhyUnread files before after s = EndsBy files ⊥ ⊥ ⊥ before after s
 
@@ -30,19 +30,19 @@ WhyNoSetup elf status.Image = is_image elf ≡ false
 WhyNoSetup elf status.Memory = ⊤
 WhyNoSetup elf _ = ⊥
 
--- Why no history was had from a memo.
+-- Why a memo gave no history.
 abbrev pub WhyNoHistory : List ℕ → Status → Type 0
 WhyNoHistory memo status.Memo = (why : MemoRefusal) × (reading memo ≡ Err why)
 WhyNoHistory memo status.Memory = ⊤
 WhyNoHistory memo _ = ⊥
 
--- Why edit lists made no inputs of a first one: a list is the first that is refused.
+-- Why edit lists made no inputs of a first input: which of them is the first that is refused.
 abbrev pub WhyUnedited : List ℕ → List (List ℕ) → Status → Type 0
 WhyUnedited first lists status.EditList = (place : ℕ) × (why : Refusal) × IsFirstRefused first lists place why
 WhyUnedited first lists status.Memory = ⊤
 WhyUnedited first lists _ = ⊥
 
--- Why no threads were had from the text of a schedule: a token is the first that encodes none.
+-- Why the text of a schedule gave no threads: a token is the first that encodes none.
 abbrev pub WhyNoThreads : List ℕ → Status → Type 0
 WhyNoThreads text status.Schedule = (number : ℕ) × Says text (Err number)
 WhyNoThreads text status.Memory = ⊤
@@ -54,16 +54,16 @@ WhyUnreplayed setup text status.Schedule = (why : ScheduleRefusal) × RefusesSch
 WhyUnreplayed setup text status.Memory = ⊤
 WhyUnreplayed setup text _ = ⊥
 
--- Why no more was done than to make the rounds of a plan that were found, and what was printed: the texts of these; and
--- where printing failed, of the last one's a part.
+-- Why a plan was cut short after the rounds that were found, and what was printed: their reports, or if printing
+-- failed, the first of these and a part of the next one.
 abbrev pub WhyCutShort : Plan → List Found → World → World → Status → Type 0
 WhyCutShort p found before after status.WriteFault = IsPrintedInPart (texts_of p found) before after
 WhyCutShort p found before after status.Memory = Prints before after (concat (texts_of p found))
 WhyCutShort p found before after _ = ⊥
 
--- Of the rounds of a plan so many workers made the first ones, from none to all of them; why no more was done, and what
--- was printed. They made no other since they had made so many, but one at most of which nothing is told: the next one
--- of the plan, where memory ran out.
+-- This many workers made the first rounds of a plan, from none to all of them; why no more was done, and what was
+-- printed. Beside these, at most one round is counted, of which nothing is reported: the next one of the plan, if
+-- memory ran out.
 pub record IsPlayedInPart (workers : ℕ) (p : Plan) (before after : World) (earlier later : Work) (s : Status) : Type 0 where
   pub found : List Found
   pub made : AreFound workers p found
@@ -78,14 +78,15 @@ WhyUnprinted text before after status.WriteFault =
 WhyUnprinted text before after status.Memory = Stays before after
 WhyUnprinted text before after _ = ⊥
 
--- The file of a name was made to hold a content, and nothing else changed.
+-- This content was written to the file of this name, and nothing else changed.
 pub record Keeps (name : Text) (content : List ℕ) (before after : World) : Type 0 where
   pub tells : after.tells ≡ before.tells
   pub printed : after.printed ≡ before.printed
   pub written : Holds after name content
   pub others : (other : Text) → other ≢ name → after.files other ≡ before.files other
 
--- Writing a memo of this content, which isn't too long, failed: its file isn't told, and nothing else changed.
+-- Writing a memo of this content, which isn't too long, failed: the content of its file isn't stated, and nothing else
+-- changed.
 pub record FailsToKeep (name : Text) (content : List ℕ) (before after : World) : Type 0 where
   pub within : length content ≤ MOST_MEMO_BYTES
   pub cause : Rose (before.write_faults name) (after.write_faults name)
@@ -106,8 +107,8 @@ WhyUnkept name content before after status.Memory = Stays before after
 WhyUnkept name content before after status.TooLarge = IsTooLong content before after
 WhyUnkept name content before after _ = ⊥
 
--- All rounds of a plan were made by so many workers, and no other, and their texts printed; and why the memo of what
--- the last one leaves, of this name, wasn't written.
+-- This many workers made all rounds of a plan, and no other, and their reports were printed; and why the memo of the
+-- last one, of this name, wasn't written.
 pub record IsUnkeptAfter (name : Option Text) (workers : ℕ) (p : Plan) (before after : World) (earlier later : Work) (s : Status)
     : Type 0
   where
@@ -122,7 +123,7 @@ pub record IsUnkeptAfter (name : Option Text) (workers : ℕ) (p : Plan) (before
     pub is_named : name ≡ Some kept
     pub why : WhyUnkept kept (memo (left_of p found)) between after s
 
--- Why not all was done of the rounds of a plan and of the memo of a name, if there is one.
+-- Why the rounds of a plan weren't all made and printed, or the memo of this name, if there is one, wasn't written.
 abbrev pub WhyUndone : Option Text → ℕ → Plan → World → World → Work → Work → Status → Type 0
 WhyUndone name workers p before after earlier later s =
     IsPlayedInPart workers p before after earlier later s ⊎ IsUnkeptAfter name workers p before after earlier later s

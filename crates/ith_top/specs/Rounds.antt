@@ -1,4 +1,4 @@
--- What is promised of the rounds of a line.
+-- The promises on the rounds of a command line.
 use Rattle.std.specs.Prelude.{◌≡◌, ℕ, true, List, All, IfSome, Some, slice_get, is_some}
 use Rattle.machine_spec.specs.Setup.{is_permitted, is_complete, records}
 use Rattle.history_spec.specs.History.{History, IsHonest}
@@ -10,11 +10,11 @@ use Rattle.rerun_spec.specs.Making.{OnlyRepeats, Repeats}
 use Rattle.rerun_spec.specs.Reports.{reports_of, made_reports, all_exit, all_made_exit}
 use Rattle.ith_top.specs.Contents.{Plan}
 
--- What is promised of a round, whoever of so many workers made its steps: the schedule that it prints is the one that
--- was made, permitted and complete; a step is marked as reused exactly where the record of it fits; one worker makes
--- the schedule that follows the choice; each entry was picked rightly: its thread was due then, or nobody who was ready
--- was; if the round works as the one before it did, it executes no more than the edit reaches; and what the
--- round leaves is of its own setup and honest, its records those of the machine from scratch, entry by entry.
+-- The promises on a round, whichever of this many workers made its steps: the schedule that it prints is the one that
+-- was made, permitted and complete; a step is marked as reused exactly if its record fits; one worker makes the
+-- schedule that follows the choice; each entry was chosen by the rule: its thread was due then, or no ready thread was;
+-- if the round works as the one before it did, it executes no more than the edit reaches; and the history of the round
+-- is of its own setup and honest, its records those of the machine from scratch, entry by entry.
 pub record IsPromised (workers : ℕ) (r : Round) : Type 0 where
   pub entries : (made r).schedule ≡ r.found.entries
   pub permitted : is_permitted r.setup (schedule_in r) ≡ true
@@ -27,14 +27,14 @@ pub record IsPromised (workers : ℕ) (r : Round) : Type 0 where
   pub honest : IsHonest (left_by r)
   pub records : (left_by r).records ≡ records r.setup (schedule_in r)
 
--- The rounds of a plan, as far as their workers found them.
+-- The first rounds of a plan, those that the workers found.
 abbrev pub rounds_of : Plan → List Found → List Round
 rounds_of p found = rounds_after p.beginning p.inputs found
 
--- What is promised of rounds, each going by what the one before it leaves: each keeps what is promised of it; the texts
--- that tell of them as they were made are their reports, which are of the machine from scratch, and so is whether each
--- ended by exit; one without an edit repeats the round before it; and so does the first, where it goes by a history of
--- its very setup.
+-- The promises on rounds, each based on the history of the one before it: each keeps its own promises; their reports as
+-- they were made are those of the machine from scratch, and so is whether each ended by exit; a round without an edit
+-- repeats the round before it; and the first round repeats the history that it is based on, if that is of the same
+-- setup.
 pub record ArePromised (workers : ℕ) (rounds : List Round) : Type 0 where
   pub each : All (IsPromised workers) rounds
   pub reports : made_reports rounds ≡ reports_of rounds
@@ -47,7 +47,7 @@ pub record ArePromised (workers : ℕ) (rounds : List Round) : Type 0 where
 abbrev pub BeginsHonestly : Beginning → Type 0
 BeginsHonestly b = IfSome b.past IsHonest
 
--- What holds of each round, also where it goes by a history that isn't honest: it has an end, and what it leaves can be
+-- The facts of each round, even if it is based on a history that isn't honest: it has an end, and its history can be
 -- encoded.
 pub record CanBeKept (r : Round) : Type 0 where
   pub ended : is_some (made r).machine.ending ≡ true

@@ -18,13 +18,13 @@ code_of status.TooLarge = 9
 code_of status.Schedule = 10
 code_of status.Untrue = 11
 
--- The status of a line: whether each round ended by exit, if the line is done, or why it isn't.
+-- The status of a command line: by whether each round ended by exit, if it is done, or why it isn't.
 abbrev pub status_in : Result Bool Status → Status
 status_in (Ok true) = status.Finished
 status_in (Ok false) = status.Unfinished
 status_in (Err s) = s
 
--- A fact by whether each round ended by exit holds, if a line is done.
+-- If a command line is done, a fact holds of whether each round ended by exit.
 abbrev pub IfDone : Status → (Bool → Type 0) → Type 0
 IfDone status.Finished fact = fact true
 IfDone status.Unfinished fact = fact false

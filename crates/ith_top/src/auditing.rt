@@ -1,4 +1,4 @@
-//! What the program does of a line that audits a memo.
+//! What an `audit` command does.
 
 ghost use Rattle.std.specs.Prelude.{◌≡◌, true, IfOk, Some};
 ghost use Rattle.history_spec.specs.History.{is_coherent};
@@ -19,7 +19,7 @@ use release_core::History;
 use std::alloc::{AllocError, Global};
 use std::thread::Threads;
 
-/// The verdict of a history that holds together, by so many workers, and the lines that tell of it.
+/// The verdict of a coherent history, which this many workers execute, and the lines that report it.
 fn verdict_of<R: Threads + Sync>(
     rt: &R,
     alloc: Global,
@@ -36,7 +36,7 @@ fn verdict_of<R: Threads + Sync>(
     Ok((verdict, text))
 }
 
-/// All that a line that audits a memo asks for.
+/// Does all that an `audit` command requests.
 pub fn audit<R: Threads + Sync, H: Host>(
     rt: &R,
     alloc: Global,

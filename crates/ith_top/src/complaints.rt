@@ -1,4 +1,4 @@
-//! The lines that go to the standard error. Nothing rests on them, so a line that finds no memory is cut short.
+//! The lines that are written to standard error. Nothing depends on them, so a line is cut short if memory runs out.
 
 use edit_list::Why;
 use elf_spec::Refusal;
@@ -6,10 +6,10 @@ use ith_text::decimal;
 use memo_spec::{Limit, Refusal as MemoRefusal};
 use std::alloc::{AllocError, Global};
 
-/// What there is to say where the host's memory ran out.
+/// The line to write if the host's memory ran out.
 pub const NO_MEMORY: &[u8] = b"no memory";
 
-/// What there is to say where no end comes after the last entry of a schedule.
+/// The line to write if the run has no end after the last entry of its schedule.
 pub const INCOMPLETE: &[u8] = b"schedule: incomplete";
 
 /// A text and a name after it.
@@ -41,14 +41,14 @@ pub fn memo_line(alloc: Global, refusal: MemoRefusal) -> Vec<u8> {
     line
 }
 
-/// How long a memo would be that is longer than it may be.
+/// The length that a memo would have, if it is longer than a memo may be.
 pub fn long_memo_line(alloc: Global, length: u64) -> Vec<u8> {
     let mut line = name_line(alloc, "too large ", "memo");
     let _ = append_number(alloc, Some(length), &mut line);
     line
 }
 
-/// Why an edit list is refused, with its name, if it has one, and the line's number.
+/// Why an edit list is refused, with its name, if it has one, and the number of the refused line.
 pub fn edits_line(alloc: Global, name: Option<&&str>, line: usize, why: Why) -> Vec<u8> {
     let mut text = match name {
         Some(name) => name_line(alloc, "edits ", name),
@@ -122,7 +122,7 @@ fn memo_kind(refusal: MemoRefusal) -> &'static str {
     }
 }
 
-/// A space and the name of a number that has a limit.
+/// A space and the name of a number of a memo that is above its limit.
 fn limit_name(limit: Limit) -> &'static [u8] {
     match limit {
         Limit::Elf => b" elf",

@@ -1,4 +1,4 @@
-//! Who makes the rounds of a line, how many were made, and how many turns were executed for these.
+//! The workers that make the rounds of a command line. The rounds and the turns that are executed for them are counted.
 
 ghost use Rattle.std.specs.Prelude.{◌≡◌, ◌+◌, ◌≤◌, true, length, option_map, IfOk};
 ghost use Rattle.std.specs.Arc.{arc_value};
@@ -18,8 +18,7 @@ use std::marker::Model;
 use std::sync::{Arc, Wait};
 use std::thread::Threads;
 
-/// How many rounds were made, and how many turns were executed for these. It has no bytes: clauses alone read it, and a
-/// program can't.
+/// How many rounds were made, and how many turns were executed for these. It has no bytes: only clauses can read it.
 #[derive(Drop)]
 struct Work {
     rounds: Tally,
@@ -41,11 +40,11 @@ pub struct MadeRound {
     pub round: Round,
     /// How many of its steps each worker made.
     pub worker_steps: Vec<u64>,
-    /// The numbers of steps that were read meanwhile; none if nobody watched.
+    /// The numbers of made steps that were read meanwhile; none if the round wasn't watched.
     pub progress: Vec<u64>,
 }
 
-/// A round that so many workers make, and nobody watches.
+/// Makes a round by this many workers, without watching it.
 fn run_unwatched<R: Threads + Wait + Sync, G: Gate + Sync>(
     rt: &R,
     alloc: Global,
@@ -64,8 +63,8 @@ fn run_unwatched<R: Threads + Wait + Sync, G: Gate + Sync>(
     Ok((worked, Vec::new(alloc)))
 }
 
-/// Makes the rounds of a line that runs or reruns a guest. On such a line it alone is lent the runtime, so that nobody
-/// else can make a round or execute a turn. It counts the rounds, and the turns of those that were made.
+/// Makes the rounds of a `run`, `rerun` or `gen` command. Nothing else borrows the runtime for such a command, so that
+/// nothing else can make a round or execute a turn. It counts the rounds, and the turns of those that were made.
 #[derive(Drop)]
 pub struct Crew<'a, R, G> {
     rt: &'a R,
@@ -76,7 +75,7 @@ pub struct Crew<'a, R, G> {
 }
 
 impl<'a, R: Threads + Wait + Sync, G: Gate + Sync> Crew<'a, R, G> {
-    /// So many workers; each of several comes to the gate before it executes a thunk. They made no round so far.
+    /// This many workers, which made no round so far. Each of several calls the gate before it executes a thunk.
     pub fn new(rt: &'a R, workers: u32, gate: &'a G) -> Self
         requires { 1 ≤ workers }
         ensures { result.workers ≡ workers }
@@ -92,12 +91,12 @@ impl<'a, R: Threads + Wait + Sync, G: Gate + Sync> Crew<'a, R, G> {
         }
     }
 
-    /// Makes the round of this number, which is shown, and watched if that is asked for. The round is counted also if
-    /// the host's memory ran out, its turns only if it was made.
+    /// Makes the round of this number. The gate is called before and after it, and it is watched if `watched` is true.
+    /// The round is counted even if the host's memory ran out, its turns only if it was made.
     ///
     /// # Errors
     ///
-    /// An error where the host's memory ran out.
+    /// An error if the host's memory ran out.
     pub fn make(
         &mut self,
         alloc: Global,

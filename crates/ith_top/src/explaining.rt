@@ -1,4 +1,4 @@
-//! What the program does of a line that tells why steps were executed.
+//! What a `why` command does.
 
 ghost use Rattle.std.specs.Prelude.{◌≡◌, ◌+◌, ◌<◌, ◌∷◌, ℕ, List, length, IfOk, IfErr, Some};
 ghost use Rattle.propagate.specs.Executing.{executed_by};
@@ -25,7 +25,7 @@ use rv_isa::Turns;
 use std::alloc::{AllocError, Global};
 use thunk_record::Compared;
 
-/// The rerun that a line explains: one round after the edit list, by one worker and with the memo's limits.
+/// The rerun that a `why` command explains: one round after the edit list, by one worker and with the memo's limits.
 fn as_rerun<'a>(alloc: Global, line: &ExplainLine<'a>) -> Result<RerunLine<'a>, AllocError>
     ensures { IfOk result (λ rerun. rerun_said rerun ≡ as_rerun (explain_said line.now)) }
 {
@@ -43,7 +43,8 @@ fn as_rerun<'a>(alloc: Global, line: &ExplainLine<'a>) -> Result<RerunLine<'a>, 
     })
 }
 
-/// The plan of the round that a line explains: its files are read, the memo is looked at, and then the edit list is.
+/// The plan of the round that a `why` command explains. Its files are read, then the memo is checked, and then the edit
+/// list.
 fn prepare<H: Host>(alloc: Global, host: &mut H, line: &ExplainLine<'_>) -> Result<Plan, Status>
     ensures plan { IfOk result (λ plan. IsPrepared (Explains (explain_said line.now))
         (H.world host.old) (H.world host.new) (plan_said plan)) }
@@ -54,7 +55,7 @@ fn prepare<H: Host>(alloc: Global, host: &mut H, line: &ExplainLine<'_>) -> Resu
     prepare_rerun(alloc, host, &rerun)
 }
 
-/// A setup with the next input, which is taken out.
+/// A setup with the next input, which is removed from the inputs.
 fn with_next(setup: &Setup, inputs: &mut Inputs) -> Result<Setup, AllocError>
     requires some { 0 < length inputs.old }
     requires short { AreShort inputs.old }
@@ -83,7 +84,7 @@ fn first_round(
     run_alone(alloc, edited, past, turns, compared)
 }
 
-/// The text that tells why the executed steps of a round were executed.
+/// The text that says why the executed steps of a round were executed.
 fn reasons_text(alloc: Global, round: &Round) -> Result<Vec<u8>, AllocError>
     ensures { IfOk result (λ text. GivesReasons round.now text.items) }
 {
@@ -91,7 +92,7 @@ fn reasons_text(alloc: Global, round: &Round) -> Result<Vec<u8>, AllocError>
     text(alloc, reasons.as_slice())
 }
 
-/// The text that tells why the executed steps of a plan's round were executed.
+/// The text that says why the executed steps of a plan's round were executed.
 fn text_of(
     alloc: Global,
     plan: Plan,
@@ -108,7 +109,7 @@ fn text_of(
     reasons_text(alloc, &round)
 }
 
-/// All that a line asks for that tells why steps were executed. Every turn that it executes is counted.
+/// Does all that a `why` command requests. Every turn that it executes is counted.
 pub fn explain<H: Host>(
     alloc: Global,
     host: &mut H,

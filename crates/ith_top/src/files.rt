@@ -1,4 +1,4 @@
-//! The files that a line names to read.
+//! The files that a command line names to read.
 
 ghost use Rattle.std.specs.Prelude.{◌≤◌, ◌∷◌, [], length, map, IfOk, IfErr};
 ghost use Rattle.ith_host.specs.World.{IsContent};
@@ -20,7 +20,7 @@ use memo_spec::MOST_MEMO_BYTES;
 use schedule_list::MOST_SCHEDULE_BYTES;
 use std::alloc::Global;
 
-/// What the files of a line that runs a guest hold.
+/// The contents of the files of a `run` command.
 #[derive(Drop)]
 pub struct Files {
     /// The executable.
@@ -31,7 +31,7 @@ pub struct Files {
     pub lists: Vec<Vec<u8>>,
 }
 
-/// What the files of a line that replays a schedule hold.
+/// The contents of the files of a `replay` command.
 #[derive(Drop)]
 pub struct ReplayFiles {
     /// The executable.
@@ -42,7 +42,7 @@ pub struct ReplayFiles {
     pub schedule: Vec<u8>,
 }
 
-/// What the files of a line that reruns a memo hold.
+/// The contents of the files of a `rerun` command.
 #[derive(Drop)]
 pub struct RerunFiles {
     /// The memo.
@@ -99,7 +99,7 @@ fn read_guest<H: Host>(
     Ok(GuestFiles { elf, input })
 }
 
-/// Reads the files of a line that runs a guest, in the order in which it names them.
+/// Reads the files of a `run` command, in the order in which it names them.
 pub fn read_files<H: Host>(alloc: Global, host: &mut H, line: &RunLine<'_>) -> Result<Files, Status>
     ensures contents { IfOk result (λ files.
         AreContents (H.world host.old) (run_said line.now) (record {
@@ -117,7 +117,7 @@ pub fn read_files<H: Host>(alloc: Global, host: &mut H, line: &RunLine<'_>) -> R
     Ok(Files { elf, input, lists })
 }
 
-/// Reads the files of a line that replays a schedule, in the order in which it names them.
+/// Reads the files of a `replay` command, in the order in which it names them.
 pub fn read_replay_files<H: Host>(
     alloc: Global,
     host: &mut H,
@@ -155,7 +155,7 @@ pub fn read_memo<H: Host>(alloc: Global, host: &mut H, name: &str) -> Result<Vec
     read_file(alloc, host, name, MOST_MEMO_BYTES as u64)
 }
 
-/// Reads the files of a line that reruns a memo, in the order in which it names them.
+/// Reads the files of a `rerun` command, in the order in which it names them.
 pub fn read_rerun_files<H: Host>(
     alloc: Global,
     host: &mut H,

@@ -1,4 +1,4 @@
-//! What the program does of a line that runs the generated guest.
+//! What a `gen` command does.
 
 ghost use Rattle.std.specs.Prelude.{◌≡◌, ◌+◌, ◌≤◌, ◌++◌, codes, decimal, length, IfOk, IfErr, Some};
 ghost use Rattle.elf_load.specs.Load.{Refuses};
@@ -32,7 +32,7 @@ use std::alloc::{AllocError, Global};
 use std::sync::Wait;
 use std::thread::Threads;
 
-/// The setup of an executable and an input, with the limits of a line that names none.
+/// The setup of an executable and an input, with the default limits.
 fn default_setup(alloc: Global, elf: Vec<u8>, input: Vec<u8>) -> Result<Setup, LoadError>
     requires elf_size { length elf.items ≤ MOST_ELF_BYTES }
     requires input_size { length input.items ≤ MOST_INPUT_BYTES }
@@ -49,8 +49,8 @@ fn default_setup(alloc: Global, elf: Vec<u8>, input: Vec<u8>) -> Result<Setup, L
     Setup::new(alloc, elf, input, default_limits())
 }
 
-/// The rounds of the guest that is generated from a number: round 0 on the generated input, and round 1 on it after the
-/// generated edit.
+/// The plan for the guest that is generated from a number: round 0 on the generated input, and round 1 on that input
+/// after the generated edit.
 fn prepare(alloc: Global, number: u32) -> Result<Plan, AllocError>
     ensures plan { IfOk result (λ plan. IsGeneratedPlan number (plan_said plan)) }
     ensures playable { IfOk result (λ plan. CanBePlayed (plan_said plan)) }
@@ -76,7 +76,7 @@ fn prepare(alloc: Global, number: u32) -> Result<Plan, AllocError>
     }
 }
 
-/// The line of the number that a guest is generated from, and the lines of its rounds.
+/// A line with the number that a guest is generated from, and the lines of its rounds.
 fn text_of(alloc: Global, number: u32, first: &[u8], second: &[u8]) -> Result<Vec<u8>, AllocError>
     ensures { IfOk result (λ text. text.items ≡ text_line (codes "gen") (decimal number)
         ++ first.now ++ second.now) }
@@ -90,16 +90,16 @@ fn text_of(alloc: Global, number: u32, first: &[u8], second: &[u8]) -> Result<Ve
     Ok(text)
 }
 
-/// What there is to print of the generated guest.
+/// What is printed of the generated guest.
 #[derive(Drop)]
 struct Lines {
-    /// The text that tells of both rounds.
+    /// The text that reports both rounds.
     text: Vec<u8>,
     /// Whether each ended by exit.
     exits: bool,
 }
 
-/// Makes both rounds of the guest that is generated from a number, by the line's workers.
+/// Makes both rounds of the guest that is generated from a number, by the workers of the crew.
 fn make_both<R: Threads + Wait + Sync, G: Gate + Sync>(
     alloc: Global,
     number: u32,
@@ -125,7 +125,7 @@ fn make_both<R: Threads + Wait + Sync, G: Gate + Sync>(
     })
 }
 
-/// All that a line that runs the generated guest asks for.
+/// Does all that a `gen` command requests.
 pub fn generate<R: Threads + Wait + Sync, H: Host, G: Gate + Sync>(
     alloc: Global,
     host: &mut H,

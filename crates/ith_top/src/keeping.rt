@@ -1,4 +1,4 @@
-//! Writing the memo of what the last round leaves.
+//! Writing the memo of the last round.
 
 ghost use Rattle.std.specs.Prelude.{◌≤◌, length, IfErr, OnOk};
 ghost use Rattle.ith_host.specs.World.{AsksNothing};
@@ -13,7 +13,7 @@ use memo_file::{WriteError, write};
 use release_core::History;
 use std::alloc::Global;
 
-/// Writes the bytes of a memo, which isn't too long, to the file of a name.
+/// Writes the bytes of a memo, which isn't too long, to the file of this name.
 fn put_memo<H: Host>(alloc: Global, host: &mut H, name: &str, bytes: &[u8]) -> Result<(), Status>
     requires { length bytes.now ≤ MOST_MEMO_BYTES }
     ensures kept { OnOk result (Keeps name.now bytes.now (H.world host.old) (H.world host.new)) }
@@ -31,7 +31,7 @@ fn put_memo<H: Host>(alloc: Global, host: &mut H, name: &str, bytes: &[u8]) -> R
     }
 }
 
-/// Writes the memo of a history to the file of a name.
+/// Writes the memo of a history to the file of this name.
 pub fn write_memo<H: Host>(
     alloc: Global,
     host: &mut H,

@@ -1,4 +1,4 @@
-//! What the program does to the outside: it reads a file, and prints a text; and says why if it couldn't.
+//! What the program does to the outside: it reads a file or prints a text, and reports why if that failed.
 
 ghost use Rattle.std.specs.Prelude.{◌≤◌, ◌∷◌, [], length, IfOk, IfErr, OnOk};
 ghost use Rattle.ith_host.specs.World.{NoneFell, AsksNothing, IsContent};
@@ -11,7 +11,7 @@ use super::status::Status;
 use ith_host::{Got, Host, Printed};
 use std::alloc::Global;
 
-/// Reads a file of at most so many bytes.
+/// Reads a file of at most `most` bytes.
 pub fn read_file<H: Host>(
     alloc: Global,
     host: &mut H,
@@ -41,7 +41,7 @@ pub fn read_file<H: Host>(
     }
 }
 
-/// Prints a text whole.
+/// Prints a whole text.
 #[tactic(auto, using(crate::proofs::Worlds::stays_trans, crate::proofs::Worlds::none_fell_trans, crate::proofs::Worlds::rose_then))]
 pub fn print_text<H: Host>(alloc: Global, host: &mut H, text: &[u8]) -> Result<(), Status>
     ensures printed { OnOk result (Prints (H.world host.old) (H.world host.new) text.now) }

@@ -1,5 +1,5 @@
-//! What rounds a line asks for: its files are read, then the executable or the memo is looked at, and then the edit
-//! lists are.
+//! The rounds that a command line requests: its files are read, then the executable or the memo is checked, and then
+//! the edit lists are.
 
 ghost use Rattle.std.specs.Prelude.{◌≡◌, ◌<◌, ◌≤◌, [], ◌∷◌, length, IfOk, IfErr, OnErr};
 ghost use Rattle.machine_spec.specs.Limits.{AreLimits};
@@ -31,29 +31,29 @@ use rerun_spec::Asked;
 use std::alloc::{AllocError, Global};
 use std::sync::Arc;
 
-/// What a round begins with.
+/// The beginning of a round: everything that it is made from, except its input.
 #[derive(Drop)]
 pub struct Beginning {
     /// How many rounds come before it.
     pub number: usize,
-    /// The history that it goes by, if there is one.
+    /// The history that it is based on, if there is one.
     pub past: Option<Arc<History>>,
     /// Its program and its limits, with some input.
     pub setup: Setup,
-    /// Which lines are asked for in its report.
+    /// Which optional lines of its report are requested.
     pub asked: Asked,
 }
 
-/// What rounds a line asks for.
+/// The rounds that a command line requests.
 #[derive(Drop)]
 pub struct Plan {
-    /// What the first begins with.
+    /// The beginning of the first one.
     pub beginning: Beginning,
-    /// Their inputs, in order, each made when the one before it is taken out.
+    /// Their inputs, in order, each computed when the one before it is removed.
     pub inputs: Inputs,
 }
 
-/// The next of some inputs, which is taken out. There is one.
+/// Removes the next of some inputs and returns it. There is one.
 ///
 /// # Errors
 ///
@@ -69,7 +69,7 @@ pub fn take_input(inputs: &mut Inputs) -> Result<Vec<u8>, AllocError>
     Ok(input)
 }
 
-/// Makes a setup of what was read, with the limits of a line.
+/// Makes a setup of an executable and an input that were read, with these limits.
 #[tactic(auto, using(crate::proofs::Ending::refused_image))]
 pub fn set_up<H: Host>(
     alloc: Global,
@@ -117,7 +117,7 @@ fn recall<H: Host>(alloc: Global, host: &mut H, memo: &[u8]) -> Result<History, 
     }
 }
 
-/// The history that the memo of a name encodes. What was read of its file is freed.
+/// The history that the memo of this name encodes. The bytes of its file are freed.
 pub fn remember<H: Host>(alloc: Global, host: &mut H, name: &str) -> Result<History, Status>
     ensures history { IfOk result (λ h. IsRemembered (H.world host.old) name.now h) }
     ensures reads { IfOk result (λ _. Reads (memo_named name.now ∷ []) (H.world host.old)
@@ -130,7 +130,7 @@ pub fn remember<H: Host>(alloc: Global, host: &mut H, name: &str) -> Result<Hist
     Ok(history)
 }
 
-/// The inputs that edit lists make of the first one. The lists have names.
+/// The first input, and what each edit list makes of the one before. The lists have these names.
 fn edit<H: Host>(
     alloc: Global,
     host: &mut H,
@@ -154,7 +154,7 @@ fn edit<H: Host>(
     }
 }
 
-/// The inputs of a rerun: what edit lists make of the first one, or the first itself where there are no lists.
+/// The inputs of a rerun: what each edit list makes of the input before it, or the first input if there is no list.
 fn edit_again<H: Host>(
     alloc: Global,
     host: &mut H,
@@ -176,7 +176,7 @@ fn edit_again<H: Host>(
     Ok(inputs)
 }
 
-/// The limits of the rounds of a line that reruns a memo: each is the line's, or the memo's where it has none.
+/// The limits of the rounds of a `rerun` command: each is that of its option, or the memo's if it has no such option.
 fn limits_for(line: &RerunLine<'_>, history: &History) -> Limits
     ensures value { result ≡ limits_for (rerun_said line.now) history.now }
     ensures within { AreLimits result.fuel result.steps }
@@ -199,7 +199,7 @@ fn with_limits(alloc: Global, history: &History, limits: Limits) -> Result<Setup
     setup.with(input, limits)
 }
 
-/// The plan of rounds with these limits on these inputs, of which the first goes by a memo.
+/// The plan of rounds with these limits on these inputs, of which the first is based on a memo.
 fn after_memo(
     alloc: Global,
     history: History,
@@ -236,8 +236,8 @@ pub fn from_scratch(setup: Setup, inputs: Inputs, asked: Asked) -> Plan
     Plan { beginning, inputs }
 }
 
-/// What rounds a line asks for that runs a guest: its files are read, the executable is looked at, and then the edit
-/// lists are, all of them in order.
+/// The rounds that a `run` command requests. Its files are read, then the executable and then the edit lists are
+/// checked, all of them in order.
 pub fn prepare<H: Host>(alloc: Global, host: &mut H, line: &RunLine<'_>) -> Result<Plan, Status>
     ensures plan { IfOk result (λ plan. IsPrepared (Runs (run_said line.now))
         (H.world host.old) (H.world host.new) (plan_said plan)) }
@@ -260,8 +260,8 @@ pub fn prepare<H: Host>(alloc: Global, host: &mut H, line: &RunLine<'_>) -> Resu
     Ok(from_scratch(setup, inputs, asked))
 }
 
-/// What rounds a line asks for that reruns a memo: its files are read, the memo is looked at, and then the edit lists
-/// are, all of them in order.
+/// The rounds that a `rerun` command requests. Its files are read, then the memo and then the edit lists are checked,
+/// all of them in order.
 pub fn prepare_rerun<H: Host>(
     alloc: Global,
     host: &mut H,

@@ -1,4 +1,4 @@
-//! What the program does of a line, from the first read to the last write.
+//! What the program does for a command line, from the first read to the last write.
 
 ghost use Rattle.std.specs.Prelude.{◌≡◌, option_map, map, string_bytes, IfOk, IfErr, Some};
 ghost use Rattle.ith_host.specs.World.{AsksNothing};
@@ -31,8 +31,8 @@ use std::sync::Wait;
 use std::thread::Threads;
 use thunk_record::Compared;
 
-/// Makes the rounds of a plan, prints their texts, and writes the memo of what the last one leaves, if it has a name.
-/// The answer is whether each round ended by exit.
+/// Makes the rounds of a plan, prints their texts, and writes the memo of the last one, if it has a name. Returns
+/// whether each round ended by exit.
 fn carry_out<R: Threads + Wait + Sync, H: Host, G: Gate + Sync>(
     alloc: Global,
     host: &mut H,
@@ -58,7 +58,7 @@ fn carry_out<R: Threads + Wait + Sync, H: Host, G: Gate + Sync>(
     Ok(exits)
 }
 
-/// All that a line that runs a guest asks for.
+/// Does all that a `run` command requests.
 fn run<R: Threads + Wait + Sync, H: Host, G: Gate + Sync>(
     alloc: Global,
     host: &mut H,
@@ -77,7 +77,7 @@ fn run<R: Threads + Wait + Sync, H: Host, G: Gate + Sync>(
     carry_out(alloc, host, plan, crew, line.new_memo)
 }
 
-/// All that a line that reruns a memo asks for.
+/// Does all that a `rerun` command requests.
 fn rerun<R: Threads + Wait + Sync, H: Host, G: Gate + Sync>(
     alloc: Global,
     host: &mut H,
@@ -96,7 +96,7 @@ fn rerun<R: Threads + Wait + Sync, H: Host, G: Gate + Sync>(
     carry_out(alloc, host, plan, crew, line.new_memo)
 }
 
-/// All that the words ask for.
+/// Does all that the arguments request.
 fn do_line<R: Threads + Wait + Sync, H: Host, G: Gate + Sync>(
     rt: &R,
     alloc: Global,
@@ -135,7 +135,7 @@ fn do_line<R: Threads + Wait + Sync, H: Host, G: Gate + Sync>(
     }
 }
 
-/// What the words ask for is done. If the host's memory ran out, it is said here, and nowhere else.
+/// Does what the arguments request. If the host's memory ran out, that is reported here, and nowhere else.
 #[tactic(auto, using(crate::proofs::Ending::short_of_memory))]
 pub fn status_of<R: Threads + Wait + Sync, H: Host, G: Gate + Sync>(
     rt: &R,

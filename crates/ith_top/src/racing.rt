@@ -1,4 +1,4 @@
-//! What the program does of a line that tells which steps of a memo race.
+//! What a `races` command does.
 
 ghost use Rattle.std.specs.Prelude.{Some};
 ghost use Rattle.ith_words.specs.Words.{FindsRaces};
@@ -17,7 +17,7 @@ use std::alloc::Global;
 /// The most races that are listed.
 pub const MOST_RACES: usize = 10_000;
 
-/// All that a line asks for that tells which steps race.
+/// Does all that a `races` command requests.
 pub fn find_races<H: Host>(
     alloc: Global,
     host: &mut H,

@@ -1,4 +1,4 @@
-//! What the program does of a line that replays a schedule.
+//! What a `replay` command does.
 
 ghost use Rattle.std.specs.Prelude.{◌≡◌, ◌+◌, Ok, IfOk, IfErr, Some};
 ghost use Rattle.plain_machine.specs.Replaying.{IsOutcomeOf};
@@ -29,7 +29,7 @@ use rv_isa::Turns;
 use schedule_list::{ParseError, parse};
 use std::alloc::{AllocError, Global};
 
-/// The threads that the text of a schedule says.
+/// The threads that the text of a schedule encodes.
 fn threads_of<H: Host>(alloc: Global, host: &mut H, text: &[u8]) -> Result<Vec<u8>, Status>
     ensures threads { IfOk result (λ threads. Says text.now (Ok threads.items)) }
     ensures refused { IfErr result (λ status. WhyNoThreads text.now status) }
@@ -45,8 +45,7 @@ fn threads_of<H: Host>(alloc: Global, host: &mut H, text: &[u8]) -> Result<Vec<u
     }
 }
 
-/// The executable, the input and the limits of a line that replays a schedule, and the schedule's text: its files are
-/// read, and then the executable is looked at.
+/// The setup of a `replay` command, and the schedule's text. Its files are read, and then the executable is checked.
 fn prepare<H: Host>(
     alloc: Global,
     host: &mut H,
@@ -66,7 +65,7 @@ fn prepare<H: Host>(
     Ok((setup, schedule))
 }
 
-/// What the text of a schedule comes to from scratch, and the threads that it says.
+/// The threads that the text of a schedule encodes, and their outcome from scratch.
 fn outcome_of<H: Host>(
     alloc: Global,
     host: &mut H,
@@ -109,7 +108,7 @@ fn all_executed(alloc: Global, threads: &[u8]) -> Result<Vec<Entry>, AllocError>
     Ok(entries)
 }
 
-/// What there is to tell of a schedule of these entries, by what it came to.
+/// The data of the report on a schedule of these entries, by its outcome.
 fn data_of<'a>(entries: &'a [Entry], outcome: &'a Outcome) -> ReportData<'a>
     ensures { result ≡ data_of_outcome entries.now outcome.now }
 {
@@ -125,7 +124,7 @@ fn data_of<'a>(entries: &'a [Entry], outcome: &'a Outcome) -> ReportData<'a>
     }
 }
 
-/// The text that tells what a schedule came to.
+/// The text that reports the outcome of a schedule.
 fn text_of(alloc: Global, threads: &[u8], outcome: &Outcome) -> Result<Vec<u8>, AllocError>
     ensures { IfOk result (λ text. TellsOfReplay threads.now outcome.now text.items) }
 {
@@ -133,7 +132,7 @@ fn text_of(alloc: Global, threads: &[u8], outcome: &Outcome) -> Result<Vec<u8>, 
     replayed(alloc, &data_of(entries.as_slice(), outcome))
 }
 
-/// All that a line that replays a schedule asks for. Every turn that it executes is counted.
+/// Does all that a `replay` command requests. Every turn that it executes is counted.
 pub fn replay<H: Host>(
     alloc: Global,
     host: &mut H,

@@ -1,4 +1,4 @@
-//! A round that a line's workers make, and its report.
+//! A round that a crew makes, and its report.
 
 ghost use Rattle.std.specs.Prelude.{◌≡◌, ◌+◌, ◌^◌, ◌<◌, ◌≤◌, length, option_map, IfOk};
 ghost use Rattle.std.specs.Arc.{arc_value};
@@ -20,18 +20,18 @@ use std::alloc::{AllocError, Global};
 use std::sync::{Arc, Wait};
 use std::thread::Threads;
 
-/// What there is of a round that was made.
+/// A round that was made, with its text.
 #[derive(Drop)]
 pub struct ReportedRound {
-    /// The text that tells of it.
+    /// The text that reports it.
     pub text: Vec<u8>,
     /// Whether it ended by exit.
     pub exited: bool,
-    /// What the next round begins with.
+    /// The beginning of the next round.
     pub next: Beginning,
 }
 
-/// What there is to tell of a round that was made, with the lines that are asked for.
+/// The data of the report on a round that was made, with the optional lines that are requested.
 fn data_of<'a>(made: &'a MadeRound, asked: Asked) -> Result<ReportData<'a>, AllocError>
     ensures { IfOk result (λ told. told ≡ data_of_made asked made.now) }
 {
@@ -58,17 +58,17 @@ fn data_of<'a>(made: &'a MadeRound, asked: Asked) -> Result<ReportData<'a>, Allo
     })
 }
 
-/// How a round is told.
+/// How a round is reported.
 #[derive(Clone, Copy)]
 pub enum Telling {
-    /// By its report.
+    /// By its full report.
     Report,
     /// By one line.
     Line,
 }
 
-/// The text that tells of a round that was made. The digest of the last memory that was told is taken if memory is the
-/// same.
+/// The text that reports a round that was made. A full report reuses the digest of the last reported memory if the
+/// memory is the same.
 fn text_of(
     alloc: Global,
     number: usize,
@@ -87,7 +87,7 @@ fn text_of(
     }
 }
 
-/// What a round leaves to the next one.
+/// The history that the next round is based on.
 fn left_by(alloc: Global, round: Round) -> Result<Arc<History>, AllocError>
     requires { IsOfMap round.past round.setup }
     ensures { IfOk result (λ left. arc_value left ≡ history_of round) }
@@ -106,7 +106,7 @@ pub fn is_exit(ending: Option<End>) -> bool
     matches!(ending, Some(End::Exit(_)))
 }
 
-/// A round of this beginning, on this input, made by the line's workers, with its text.
+/// Makes a round from this beginning, on this input, by the workers of the crew, and its text.
 ///
 /// # Errors
 ///

@@ -1,4 +1,4 @@
-//! The rounds of a line, one after the other.
+//! The rounds of a command line, one after the other.
 
 ghost use Rattle.std.specs.Prelude.{IfOk, IfErr};
 ghost use Rattle.std.specs.Arc.{arc_value};
@@ -17,17 +17,17 @@ use std::alloc::Global;
 use std::sync::{Arc, Wait};
 use std::thread::Threads;
 
-/// What the rounds of a line came to.
+/// The outcome of the rounds of a command line.
 #[derive(Drop)]
 pub struct Outcome {
     /// Whether each ended by exit.
     pub exits: bool,
-    /// What the last one leaves.
+    /// The history of the last one.
     pub left: Arc<History>,
 }
 
-/// Makes the rounds of a plan, each going by what the one before it leaves, and prints the text of each before the next
-/// begins.
+/// Makes the rounds of a plan, each based on the history of the one before it, and prints the text of each before the
+/// next one begins.
 pub fn make_rounds<R: Threads + Wait + Sync, H: Host, G: Gate + Sync>(
     alloc: Global,
     host: &mut H,

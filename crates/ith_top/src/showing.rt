@@ -1,4 +1,4 @@
-//! What the program does of a line that shows a memo.
+//! What a `show` command does.
 
 ghost use Rattle.std.specs.Prelude.{Some};
 ghost use Rattle.ith_words.specs.Words.{Shows};
@@ -14,7 +14,7 @@ use ith_words::ShowLine;
 use memo_reports::listing::listing;
 use std::alloc::Global;
 
-/// All that a line that shows a memo asks for.
+/// Does all that a `show` command requests.
 pub fn show<H: Host>(alloc: Global, host: &mut H, line: &ShowLine<'_>) -> Result<bool, Status>
     ensures { Ends (Some (Shows (show_said line.now)))
         (H.world host.old) (H.world host.new) (status_in result) }

@@ -9,13 +9,13 @@ use std::alloc::{AllocError, AllocFailed};
 /// How a call of the program ends. Its number is the program's exit status.
 #[derive(Clone, Copy)]
 pub enum Status {
-    /// 0: every report was printed, each round ended by exit, and the memo that was asked for was written; or a
-    /// schedule was replayed, or the generated guest run, to an exit; or a memo was listed, or is honest as its audit
-    /// found, or its races were printed, or the reasons why steps were executed.
+    /// 0: every report was printed, each round ended by exit, and the memo that was requested was written; or a
+    /// schedule was replayed, or the generated guest run, to an exit; or a memo was listed, or was audited and is
+    /// honest; or its races were printed, or the reasons why steps were executed.
     Finished,
-    /// 1: the same, but some end isn't an exit.
+    /// 1: as 0, but a round or a replay ended otherwise than by exit.
     Unfinished,
-    /// 2: the words of the command line aren't accepted.
+    /// 2: the command line isn't accepted.
     Words,
     /// 3: the executable is refused.
     Image,
@@ -23,13 +23,13 @@ pub enum Status {
     Memo,
     /// 5: an edit list is refused.
     EditList,
-    /// 6: a file that the line names couldn't be read.
+    /// 6: a file that the command line names couldn't be read.
     ReadFault,
     /// 7: printing failed, or writing the memo.
     WriteFault,
     /// 8: the host's memory ran out.
     Memory,
-    /// 9: a file that the line names is longer than its limit, or the memo to write would be.
+    /// 9: a file that the command line names is longer than its limit, or the memo to write would be.
     TooLarge,
     /// 10: the schedule to replay is refused.
     Schedule,

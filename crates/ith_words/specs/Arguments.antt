@@ -3,7 +3,7 @@ use Rattle.clap.specs.Words.{Rule}
 use Rattle.ith_words.specs.declared.argument.Argument.{Argument as argument}
 use Rattle.ith_words.specs.Words.{operand_rule, number_operand_rule, edits_rule, number_rule, memo_rule, flag_rule}
 
--- The rule of an operand or option, by its name and the most that its number may be.
+-- The rule of an operand or option, by its name and its greatest number.
 abbrev pub rule_in : argument → Rule
 rule_in (argument.Operand id help) = operand_rule id.now
 rule_in (argument.NumberOperand id most help) = number_operand_rule id.now most

@@ -1,4 +1,4 @@
--- Why words give no line.
+-- Why arguments are no command line.
 use Rattle.std.specs.Prelude.{◌≡◌, ◌≢◌, List, None, ⊤}
 use Rattle.clap.specs.Words.{kind_of}
 use Rattle.clap.specs.declared.error.Error.{Error}
@@ -7,12 +7,12 @@ use Rattle.ith_words.specs.declared.words.LineFault.{LineFault}
 use Rattle.ith_words.specs.declared.words.LineFault.TheVariants as fault
 use Rattle.ith_words.specs.Words.{Text, line_of}
 
--- What an error of the parser says: the words are refused, unless the host's memory ran out.
+-- The fault for an error of the parser: the arguments are refused, unless the host's memory ran out.
 abbrev pub WhyFault : Error → LineFault → Type 0
 WhyFault error (fault.Refused text) = kind_of error ≢ OutOfMemory
 WhyFault error fault.Memory = kind_of error ≡ OutOfMemory
 
--- Why words give no line.
+-- Why arguments are no command line.
 abbrev pub WhyNoLine : List Text → LineFault → Type 0
 WhyNoLine words (fault.Refused text) = line_of words ≡ None
 WhyNoLine words fault.Memory = ⊤

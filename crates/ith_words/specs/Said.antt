@@ -1,4 +1,4 @@
--- What a line in code says.
+-- The command lines in code, as those of the definitions.
 use Rattle.std.specs.Prelude.{map, option_map}
 use Rattle.ith_words.specs.declared.line.Line.{Line as line}
 use Rattle.ith_words.specs.declared.line.RunLine.{RunLine as run_line}
@@ -11,7 +11,7 @@ use Rattle.ith_words.specs.declared.line.GenerateLine.{GenerateLine as generate_
 use Rattle.ith_words.specs.Words.{Line, Runs, Reruns, Replays, Shows, Explains, Audits, FindsRaces, Generates, RunLine, RerunLine, ReplayLine, ShowLine, ExplainLine, AuditLine, RacesLine, GenerateLine}
 use Rattle.ith_words.specs.declared.line.RacesLine.{RacesLine as races_line}
 
--- The line that runs a guest, in code, as a line of the definitions.
+-- A `run` command line in code, as one of the definitions.
 abbrev pub run_said : run_line → RunLine
 run_said l = record {
   elf = l.elf.now;
@@ -25,7 +25,7 @@ run_said l = record {
   progress = l.progress;
 }
 
--- The line that goes on from a memo, in the same way.
+-- A `rerun` command line, in the same way.
 abbrev pub rerun_said : rerun_line → RerunLine
 rerun_said l = record {
   memo = l.memo.now;
@@ -38,7 +38,7 @@ rerun_said l = record {
   progress = l.progress;
 }
 
--- The line that replays a schedule, in the same way.
+-- A `replay` command line, in the same way.
 abbrev pub replay_said : replay_line → ReplayLine
 replay_said l = record {
   elf = l.elf.now;
@@ -48,27 +48,27 @@ replay_said l = record {
   limit = l.limits.steps;
 }
 
--- The line that lists a memo, in the same way.
+-- A `show` command line, in the same way.
 abbrev pub show_said : show_line → ShowLine
 show_said l = record { memo = l.memo.now }
 
--- The line that tells why steps were executed, in the same way.
+-- A `why` command line, in the same way.
 abbrev pub explain_said : explain_line → ExplainLine
 explain_said l = record { memo = l.memo.now; edits = l.edits.now }
 
--- The line that audits a memo, in the same way.
+-- An `audit` command line, in the same way.
 abbrev pub audit_said : audit_line → AuditLine
 audit_said l = record { memo = l.memo.now; workers = l.workers }
 
--- The line that tells which steps race, in the same way.
+-- A `races` command line, in the same way.
 abbrev pub races_said : races_line → RacesLine
 races_said l = record { memo = l.memo.now }
 
--- The line that runs the generated guest, in the same way.
+-- A `gen` command line, in the same way.
 abbrev pub generate_said : generate_line → GenerateLine
 generate_said l = record { number = l.number; workers = l.workers }
 
--- A line of any kind, in the same way.
+-- A command line of any kind, in the same way.
 abbrev pub line_said : line → Line
 line_said (line.Run l) = Runs (run_said l)
 line_said (line.Rerun l) = Reruns (rerun_said l)

@@ -1,4 +1,4 @@
--- What the words of a command line ask for, as the kit's parser of command lines takes them.
+-- What the arguments of a command line request, as the kit's parser of command lines parses them.
 use Rattle.std.specs.Prelude.{ℕ, Bool, true, false, List, [], ◌∷◌, codes, if◌then◌else◌, Option, Some, None, unwrap_or, option_and_then}
 use Rattle.std.specs.Option.{option_map_or}
 use Rattle.std.specs.Str.{bytes_eq}
@@ -11,13 +11,13 @@ use Rattle.clap.specs.ValueTests.{is_unsigned_in}
 use Rattle.clap.specs.declared.builder.action.ArgAction.TheVariants.{Set, Append, SetTrue}
 use Rattle.clap.specs.declared.builder.value_parser.ValueParser.TheVariants as parser
 
--- A word, by its bytes.
+-- An argument, by its bytes.
 abbrev pub Text : Type 0
 Text = List ℕ
 
--- A line that runs a guest: the names of the executable, of the input and of the edit lists, in order, how many
--- workers, the limits, the name of the memo to write, if there is to be one, and whether the reports tell what an edit
--- reaches and what was read of the progress.
+-- A `run` command line: the names of the executable, of the input and of the edit lists, in order; the number of
+-- workers; the limits; the name of the memo to write, if one is requested; and whether the reports state how many steps
+-- an edit reaches, and what was read of the progress.
 pub record RunLine : Type 0 where
   pub elf : Text
   pub input : Text
@@ -29,9 +29,9 @@ pub record RunLine : Type 0 where
   pub reach : Bool
   pub progress : Bool
 
--- A line that goes on from a memo: the names of the memo to read and of the edit lists, in order, how many workers,
--- the fuel and the step limit, each if it isn't to be the memo's, the name of the memo to write, if there is to be one,
--- and whether the reports tell what an edit reaches and what was read of the progress.
+-- A `rerun` command line: the names of the memo to read and of the edit lists, in order; the number of workers; the
+-- fuel and the step limit, which default to the memo's; the name of the memo to write, if one is requested; and whether
+-- the reports state how many steps an edit reaches, and what was read of the progress.
 pub record RerunLine : Type 0 where
   pub memo : Text
   pub edits : List Text
@@ -42,7 +42,7 @@ pub record RerunLine : Type 0 where
   pub reach : Bool
   pub progress : Bool
 
--- A line that replays a schedule: the names of the executable, of the input and of the schedule, and the limits.
+-- A `replay` command line: the names of the executable, of the input and of the schedule, and the limits.
 pub record ReplayLine : Type 0 where
   pub elf : Text
   pub input : Text
@@ -50,30 +50,30 @@ pub record ReplayLine : Type 0 where
   pub fuel : ℕ
   pub limit : ℕ
 
--- A line that lists a memo: the name of the memo to read.
+-- A `show` command line: the name of the memo to read.
 pub record ShowLine : Type 0 where
   pub memo : Text
 
--- A line that tells why steps were executed: the names of the memo to read and of the edit list.
+-- A `why` command line: the names of the memo to read and of the edit list.
 pub record ExplainLine : Type 0 where
   pub memo : Text
   pub edits : Text
 
--- A line that audits a memo: the name of the memo to read, and how many workers.
+-- An `audit` command line: the name of the memo to read, and the number of workers.
 pub record AuditLine : Type 0 where
   pub memo : Text
   pub workers : ℕ
 
--- A line that tells which steps race: the name of the memo to read.
+-- A `races` command line: the name of the memo to read.
 pub record RacesLine : Type 0 where
   pub memo : Text
 
--- A line that runs the generated guest: the number that it is generated from, and how many workers.
+-- A `gen` command line: the number that the guest is generated from, and the number of workers.
 pub record GenerateLine : Type 0 where
   pub number : ℕ
   pub workers : ℕ
 
--- What a line asks for.
+-- The request of a command line.
 pub data Line : Type 0 where
   Runs : RunLine → Line
   Reruns : RerunLine → Line
@@ -84,27 +84,27 @@ pub data Line : Type 0 where
   FindsRaces : RacesLine → Line
   Generates : GenerateLine → Line
 
--- How many workers there are where the line doesn't say.
+-- The default number of workers.
 abbrev pub default_workers : ℕ
 default_workers = 4
 
--- The most turns of a thunk where the line doesn't say.
+-- The default for the most turns of a thunk.
 abbrev pub default_fuel : ℕ
 default_fuel = 1000000
 
--- The most steps of a run where the line doesn't say.
+-- The default for the most steps of a run.
 abbrev pub default_limit : ℕ
 default_limit = 4096
 
--- An operand, which has to be there. (POSIX.1-2017, XBD 12.1)
+-- An operand, which is required. (POSIX.1-2017, XBD 12.1)
 abbrev pub operand_rule : Text → Rule
 operand_rule id = record (new_rule id) { required = true }
 
--- An operand that is a whole number of at most this, which has to be there. (POSIX.1-2017, XBD 12.1)
+-- An operand that is a whole number of at most `most`, which is required. (POSIX.1-2017, XBD 12.1)
 abbrev pub number_operand_rule : Text → ℕ → Rule
 number_operand_rule id most = record (new_rule id) { required = true; parser = Some (parser.Unsigned 0 most) }
 
--- An option whose argument is a whole number, from 1 to the most.
+-- An option whose argument is a whole number from 1 to `most`.
 abbrev pub number_rule : Text → ℕ → Rule
 number_rule id most = record (new_rule id) { long = Some id; action = Some Set; parser = Some (parser.Unsigned 1 most) }
 
@@ -132,7 +132,7 @@ memo_rule = record (new_rule (codes "memo")) { long = Some (codes "memo"); actio
 abbrev pub flag_rule : List ℕ → Rule
 flag_rule name = record (new_rule name) { long = Some name; action = Some SetTrue }
 
--- A command with arguments more, in their order.
+-- A command with these arguments added, in their order.
 abbrev pub with_rules : App → List Rule → App
 with_rules command [] = command
 with_rules command (rule ∷ rules) = with_rules (with_rule command rule) rules
@@ -141,64 +141,64 @@ with_rules command (rule ∷ rules) = with_rules (with_rule command rule) rules
 abbrev pub command : Text → List Rule → App
 command name rules = with_rules (new_app name) rules
 
--- The options of a command that makes rounds: for workers, limits, the memo to write, and two more lines of reports.
+-- The options of a command that makes rounds: for workers, limits, the memo to write, and two optional report lines.
 abbrev pub round_options : List Rule
 round_options =
     workers_rule ∷ fuel_rule ∷ steps_rule ∷ memo_rule ∷ flag_rule (codes "reach") ∷ flag_rule (codes "progress") ∷ []
 
--- The command that runs a guest: the executable, the input, any number of edit lists, and six options.
+-- The `run` command: the executable, the input, any number of edit lists, and six options.
 unfoldable pub run_command : App
 run_command =
     command (codes "run")
     (operand_rule (codes "ELF") ∷ operand_rule (codes "INPUT") ∷ edits_rule ∷ round_options)
 
--- The command that goes on from a memo: the memo, any number of edit lists, and six options.
+-- The `rerun` command: the memo, any number of edit lists, and six options.
 unfoldable pub rerun_command : App
 rerun_command =
     command (codes "rerun")
     (operand_rule (codes "MEMO") ∷ edits_rule ∷ round_options)
 
--- The command that replays a schedule: three operands, and two options.
+-- The `replay` command: three operands, and two options.
 unfoldable pub replay_command : App
 replay_command =
     command (codes "replay")
     (operand_rule (codes "ELF") ∷ operand_rule (codes "INPUT") ∷ operand_rule (codes "SCHEDULE") ∷ fuel_rule
     ∷ steps_rule ∷ [])
 
--- The command that lists a memo: the memo alone.
+-- The `show` command: only the memo.
 unfoldable pub show_command : App
 show_command = command (codes "show") (operand_rule (codes "MEMO") ∷ [])
 
--- The command that tells why steps were executed: the memo, and an edit list.
+-- The `why` command: the memo, and an edit list.
 unfoldable pub explain_command : App
 explain_command = command (codes "why") (operand_rule (codes "MEMO") ∷ operand_rule (codes "EDITS") ∷ [])
 
--- The command that audits a memo: the memo, and an option.
+-- The `audit` command: the memo, and an option.
 unfoldable pub audit_command : App
 audit_command = command (codes "audit") (operand_rule (codes "MEMO") ∷ workers_rule ∷ [])
 
--- The command that tells which steps race: the memo alone.
+-- The `races` command: only the memo.
 unfoldable pub races_command : App
 races_command = command (codes "races") (operand_rule (codes "MEMO") ∷ [])
 
--- The command that runs the generated guest: a number, and an option.
+-- The `gen` command: a number, and an option.
 unfoldable pub generate_command : App
 generate_command = command (codes "gen") (number_operand_rule (codes "NUMBER") MOST_NUMBER ∷ workers_rule ∷ [])
 
--- The program, which has to be given one of its commands.
+-- The program, which requires one of its commands.
 abbrev pub program : App
 program = on_top (λ s. record s { subcommand_required = true }) (new_app (codes "ithreads"))
 
--- The program and the commands that run a guest which the line names.
+-- The program and the commands that run a guest that the command line names: `run`, `rerun` and `replay`.
 unfoldable pub guest_commands : App
 guest_commands =
     with_subcommand (with_subcommand (with_subcommand program run_command.top) rerun_command.top) replay_command.top
 
--- The same, and the commands that look at a memo.
+-- The same, and the commands `show` and `why`.
 unfoldable pub memo_commands : App
 memo_commands = with_subcommand (with_subcommand guest_commands show_command.top) explain_command.top
 
--- The same, and the commands that judge the run of a memo.
+-- The same, and the commands `audit` and `races`.
 unfoldable pub judging_commands : App
 judging_commands = with_subcommand (with_subcommand memo_commands audit_command.top) races_command.top
 
@@ -206,33 +206,33 @@ judging_commands = with_subcommand (with_subcommand memo_commands audit_command.
 unfoldable pub command_line : App
 command_line = with_subcommand judging_commands generate_command.top
 
--- Whether an option that has no argument was given: the parser then has the word true for it.
+-- Whether an option that has no argument is given: the parser then has the text `true` for it.
 abbrev pub flag_given : Option Text → Bool
 flag_given text = option_map_or (λ word. bytes_eq word (codes "true")) text false
 
--- The number that a text writes where it lies from the least to the most.
+-- The number that a text encodes, if it is from `least` to `most`.
 abbrev pub number_given : ℕ → ℕ → Option Text → Option ℕ
 number_given least most None = None
 number_given least most (Some text) =
     if is_unsigned_in least most text then Some (digits_value 10 (without_leading_plus text)) else None
 
--- The number from 1 to the most that a text writes, or else the default.
+-- The number from 1 to `most` that a text encodes, or else the default.
 abbrev pub number_or : ℕ → ℕ → Option Text → ℕ
 number_or most default text = unwrap_or (number_given 1 most text) default
 
--- The text of an operand that has to be there.
+-- The text of a required operand.
 abbrev pub operand : Text → List Row → Text
 operand id rows = unwrap_or (first_of id rows) []
 
--- The names of the edit lists, in the order of the line.
+-- The names of the edit lists, in the order of the command line.
 abbrev pub edits_named : List Row → List Text
 edits_named rows = unwrap_or (all_of (codes "EDITS") rows) []
 
--- How many workers there are.
+-- The number of workers.
 abbrev pub workers_named : List Row → ℕ
 workers_named rows = number_or MOST_WORKERS default_workers (one_of (codes "workers") rows)
 
--- The most turns of a thunk, if the line says.
+-- The most turns of a thunk, if `--fuel` is given.
 abbrev pub fuel_given : List Row → Option ℕ
 fuel_given rows = number_given 1 MOST_FUEL (one_of (codes "fuel") rows)
 
@@ -240,7 +240,7 @@ fuel_given rows = number_given 1 MOST_FUEL (one_of (codes "fuel") rows)
 abbrev pub fuel_named : List Row → ℕ
 fuel_named rows = unwrap_or (fuel_given rows) default_fuel
 
--- The most steps of a run, if the line says.
+-- The most steps of a run, if `--steps` is given.
 abbrev pub limit_given : List Row → Option ℕ
 limit_given rows = number_given 1 MOST_STEPS (one_of (codes "steps") rows)
 
@@ -248,19 +248,19 @@ limit_given rows = number_given 1 MOST_STEPS (one_of (codes "steps") rows)
 abbrev pub limit_named : List Row → ℕ
 limit_named rows = unwrap_or (limit_given rows) default_limit
 
--- The name of the memo to write, if the line has one.
+-- The name of the memo to write, if `--memo` is given.
 abbrev pub memo_named : List Row → Option Text
 memo_named rows = first_of (codes "memo") rows
 
--- Whether the line has an option that has no argument.
+-- Whether this option, which has no argument, is given.
 abbrev pub flag_named : List ℕ → List Row → Bool
 flag_named name rows = flag_given (one_of name rows)
 
--- The number to generate from, which has to be there.
+-- The number to generate from, which is required.
 abbrev pub number_named : List Row → ℕ
 number_named rows = unwrap_or (number_given 0 MOST_NUMBER (one_of (codes "NUMBER") rows)) 0
 
--- The line of what was found for the operands and options of the command that runs a guest.
+-- The `run` command line of the operands and options that were found.
 abbrev pub run_line : List Row → RunLine
 run_line rows =
     record {
@@ -275,7 +275,7 @@ run_line rows =
       progress = flag_named (codes "progress") rows;
     }
 
--- The line of what was found for the operands and options of the command that goes on from a memo.
+-- The `rerun` command line of the operands and options that were found.
 abbrev pub rerun_line : List Row → RerunLine
 rerun_line rows =
     record {
@@ -289,7 +289,7 @@ rerun_line rows =
       progress = flag_named (codes "progress") rows;
     }
 
--- The line of what was found for the operands and options of the command that replays a schedule.
+-- The `replay` command line of the operands and options that were found.
 abbrev pub replay_line : List Row → ReplayLine
 replay_line rows =
     record {
@@ -300,27 +300,27 @@ replay_line rows =
       limit = limit_named rows;
     }
 
--- The line of what was found for the operand of the command that lists a memo.
+-- The `show` command line of the operand that was found.
 abbrev pub show_line : List Row → ShowLine
 show_line rows = record { memo = operand (codes "MEMO") rows }
 
--- The line of what was found for the operands of the command that tells why steps were executed.
+-- The `why` command line of the operands that were found.
 abbrev pub explain_line : List Row → ExplainLine
 explain_line rows = record { memo = operand (codes "MEMO") rows; edits = operand (codes "EDITS") rows }
 
--- The line of what was found for the operand and the option of the command that audits a memo.
+-- The `audit` command line of the operand and the option that were found.
 abbrev pub audit_line : List Row → AuditLine
 audit_line rows = record { memo = operand (codes "MEMO") rows; workers = workers_named rows }
 
--- The line of what was found for the operand of the command that tells which steps race.
+-- The `races` command line of the operand that was found.
 abbrev pub races_line : List Row → RacesLine
 races_line rows = record { memo = operand (codes "MEMO") rows }
 
--- The line of what was found for the operand and the option of the command that runs the generated guest.
+-- The `gen` command line of the operand and the option that were found.
 abbrev pub generate_line : List Row → GenerateLine
 generate_line rows = record { number = number_named rows; workers = workers_named rows }
 
--- The line of a command's name and of what was found for it.
+-- The command line of a command's name and of the operands and options that were found for it.
 abbrev pub line_named : Text × List Row → Option Line
 line_named p =
     if bytes_eq p.0 (codes "run") then Some (Runs (run_line p.1))
@@ -333,12 +333,12 @@ line_named p =
     else if bytes_eq p.0 (codes "gen") then Some (Generates (generate_line p.1))
     else None
 
--- A line, where there is no fault.
+-- A command line, if there is no fault.
 abbrev pub if_faultless : Kinds → Option Line → Option Line
 if_faultless [] line = line
 if_faultless (k ∷ ks) line = None
 
--- What the words ask for, or none where they aren't accepted; the first is the program's name.
+-- The command line of the arguments, or none if they aren't accepted; the first argument is the program's name.
 unfoldable pub line_of : List Text → Option Line
 line_of words =
     if_faultless (fault_of command_line words) (option_and_then line_named (subcommand_of command_line words))

@@ -1,5 +1,5 @@
-//! The operands and options of the program's commands, and the arguments of `clap` that they become.
-//! No call that makes an argument is inlined: arguments are large values, and all of them would lie in one frame.
+//! The operands and options of the program's commands, and the arguments of `clap` that they become. No call that makes
+//! an argument is inlined: arguments are large values, and one stack frame would hold all of them.
 
 ghost use Rattle.std.specs.Prelude.{◌≡◌, ◌++◌, All, Some, map, OnOk, false};
 ghost use Rattle.clap.specs.Words.{new_rule, rule_of};
@@ -12,16 +12,16 @@ use clap::{Arg, ArgAction};
 use machine_spec::{MOST_FUEL, MOST_STEPS};
 use std::alloc::{AllocError, Global};
 
-/// An operand or option of a command, with its name and what the help says of it.
+/// An operand or option of a command, with its name and its help text.
 #[derive(Clone, Copy)]
 pub enum Argument<'a> {
-    /// An operand, which has to be there.
+    /// An operand, which is required.
     Operand(&'a str, &'a str),
-    /// An operand that is a whole number of at most this, which has to be there.
+    /// An operand that is a whole number of at most this, which is required.
     NumberOperand(&'a str, u32, &'a str),
     /// The operand for edit lists.
     Edits,
-    /// An option whose argument is a whole number, from 1 to the most.
+    /// An option whose argument is a whole number from 1 to this.
     Number(&'a str, u32, &'a str),
     /// The option for the memo to write.
     Memo,
@@ -54,7 +54,7 @@ pub fn steps<'a>(help: &'a str) -> Argument<'a>
     Argument::Number("steps", MOST_STEPS, help)
 }
 
-/// The options of a command that makes rounds, with what the help says of the limits.
+/// The options of a command that makes rounds, with the help texts of the limits.
 pub fn round_options<'a>(turns: &'a str, most: &'a str) -> [Argument<'a>; 6]
     ensures { map rule_in result ≡ line.round_options }
 {
@@ -71,7 +71,7 @@ pub fn round_options<'a>(turns: &'a str, most: &'a str) -> [Argument<'a>; 6]
     ]
 }
 
-/// An operand, which has to be there (POSIX.1-2017, XBD 12.1).
+/// An operand, which is required (POSIX.1-2017, XBD 12.1).
 #[inline(never)]
 fn operand<'a>(alloc: Global, id: &'a str, help: &'a str) -> Arg<'a>
     ensures rule { rule_of result ≡ line.operand_rule id.entry.now }
@@ -80,7 +80,7 @@ fn operand<'a>(alloc: Global, id: &'a str, help: &'a str) -> Arg<'a>
     Arg::new(alloc, id).required(true).help(help)
 }
 
-/// An operand that is a whole number of at most this, which has to be there (POSIX.1-2017, XBD 12.1).
+/// An operand that is a whole number of at most `most`, which is required (POSIX.1-2017, XBD 12.1).
 #[inline(never)]
 fn number_operand<'a>(alloc: Global, id: &'a str, most: u32, help: &'a str) -> Arg<'a>
     ensures rule { rule_of result ≡ line.number_operand_rule id.entry.now most }
@@ -112,7 +112,7 @@ fn option<'a>(alloc: Global, id: &'a str, action: ArgAction, help: &'a str) -> A
     Arg::new(alloc, id).long(id).action(action).help(help)
 }
 
-/// An option whose argument is a whole number, from 1 to the most.
+/// An option whose argument is a whole number from 1 to `most`.
 #[inline(never)]
 fn number<'a>(alloc: Global, id: &'a str, most: u32, help: &'a str) -> Arg<'a>
     ensures rule { rule_of result ≡ line.number_rule id.entry.now most }
@@ -146,7 +146,7 @@ fn arg_of<'a>(alloc: Global, argument: Argument<'a>) -> Arg<'a>
 ///
 /// # Errors
 ///
-/// An error where the host's memory ran out.
+/// An error if the host's memory ran out.
 #[inline(never)]
 pub fn add_arguments<'a>(
     alloc: Global,

@@ -1,5 +1,5 @@
-//! The command line that the program takes, as a command of `clap`.
-//! No call that makes a command is inlined: commands are large values, and all of them would lie in one frame.
+//! The command line that the program takes, as a command of `clap`. No call that makes a command is inlined: commands
+//! are large values, and one stack frame would hold all of them.
 
 ghost use Rattle.std.specs.Prelude.{◌≡◌, ◌++◌, map, IfOk, false};
 ghost use Rattle.clap.specs.Words.{App, app_of, with_subcommand};
@@ -32,7 +32,7 @@ fn command<'a>(
     Command::new(alloc, name).about(about).args(args)
 }
 
-/// The command that runs a guest.
+/// The `run` command.
 #[tactic(auto, unfolding(crate::specs::Words::run_command))]
 fn run_command<'a>(alloc: Global) -> Result<Command<'a>, AllocError>
     ensures shape { IfOk result (λ c. app_of c ≡ line.run_command) }
@@ -54,7 +54,7 @@ fn run_command<'a>(alloc: Global) -> Result<Command<'a>, AllocError>
     )
 }
 
-/// The command that goes on from a memo.
+/// The `rerun` command.
 #[tactic(auto, unfolding(crate::specs::Words::rerun_command))]
 fn rerun_command<'a>(alloc: Global) -> Result<Command<'a>, AllocError>
     ensures shape { IfOk result (λ c. app_of c ≡ line.rerun_command) }
@@ -75,7 +75,7 @@ fn rerun_command<'a>(alloc: Global) -> Result<Command<'a>, AllocError>
     )
 }
 
-/// The command that replays a schedule.
+/// The `replay` command.
 #[tactic(auto, unfolding(crate::specs::Words::replay_command))]
 fn replay_command<'a>(alloc: Global) -> Result<Command<'a>, AllocError>
     ensures shape { IfOk result (λ c. app_of c ≡ line.replay_command) }
@@ -97,7 +97,7 @@ fn replay_command<'a>(alloc: Global) -> Result<Command<'a>, AllocError>
     )
 }
 
-/// The command that lists a memo.
+/// The `show` command.
 #[tactic(auto, unfolding(crate::specs::Words::show_command))]
 fn show_command<'a>(alloc: Global) -> Result<Command<'a>, AllocError>
     ensures shape { IfOk result (λ c. app_of c ≡ line.show_command) }
@@ -107,7 +107,7 @@ fn show_command<'a>(alloc: Global) -> Result<Command<'a>, AllocError>
     command(alloc, "show", "Lists a memo", &operands, &[])
 }
 
-/// The command that tells why steps were executed.
+/// The `why` command.
 #[tactic(auto, unfolding(crate::specs::Words::explain_command))]
 fn explain_command<'a>(alloc: Global) -> Result<Command<'a>, AllocError>
     ensures shape { IfOk result (λ c. app_of c ≡ line.explain_command) }
@@ -126,7 +126,7 @@ fn explain_command<'a>(alloc: Global) -> Result<Command<'a>, AllocError>
     )
 }
 
-/// The command that audits a memo.
+/// The `audit` command.
 #[tactic(auto, unfolding(crate::specs::Words::audit_command))]
 fn audit_command<'a>(alloc: Global) -> Result<Command<'a>, AllocError>
     ensures shape { IfOk result (λ c. app_of c ≡ line.audit_command) }
@@ -142,7 +142,7 @@ fn audit_command<'a>(alloc: Global) -> Result<Command<'a>, AllocError>
     )
 }
 
-/// The command that tells which steps race.
+/// The `races` command.
 #[tactic(auto, unfolding(crate::specs::Words::races_command))]
 fn races_command<'a>(alloc: Global) -> Result<Command<'a>, AllocError>
     ensures shape { IfOk result (λ c. app_of c ≡ line.races_command) }
@@ -158,7 +158,7 @@ fn races_command<'a>(alloc: Global) -> Result<Command<'a>, AllocError>
     )
 }
 
-/// The command that runs the generated guest.
+/// The `gen` command.
 #[tactic(auto, unfolding(crate::specs::Words::generate_command))]
 fn generate_command<'a>(alloc: Global) -> Result<Command<'a>, AllocError>
     ensures shape { IfOk result (λ c. app_of c ≡ line.generate_command) }
@@ -174,7 +174,7 @@ fn generate_command<'a>(alloc: Global) -> Result<Command<'a>, AllocError>
     )
 }
 
-/// A command with a command below it, where there was memory for that one.
+/// A command with a command below it, if there was memory for that one.
 #[inline(never)]
 fn with_command<'a>(
     above: Command<'a>,
@@ -187,7 +187,7 @@ fn with_command<'a>(
     above.subcommand(below?)
 }
 
-/// The program, which has to be given one of its commands.
+/// The program, which requires one of its commands.
 fn program<'a>(alloc: Global) -> Command<'a>
     ensures { app_of result ≡ line.program }
 {
@@ -198,7 +198,7 @@ fn program<'a>(alloc: Global) -> Command<'a>
         .subcommand_required(true)
 }
 
-/// The program and the commands that run a guest which the line names.
+/// The program and the commands that run a guest that the command line names: `run`, `rerun` and `replay`.
 #[inline(never)]
 fn guest_commands<'a>(alloc: Global) -> Result<Command<'a>, AllocError>
     ensures { IfOk result (λ c. app_of c ≡ line.guest_commands) }
@@ -208,7 +208,7 @@ fn guest_commands<'a>(alloc: Global) -> Result<Command<'a>, AllocError>
     with_command(program, replay_command(alloc))
 }
 
-/// The same, and the commands that look at a memo.
+/// The same, and the commands `show` and `why`.
 #[inline(never)]
 fn memo_commands<'a>(alloc: Global) -> Result<Command<'a>, AllocError>
     ensures { IfOk result (λ c. app_of c ≡ line.memo_commands) }
@@ -217,7 +217,7 @@ fn memo_commands<'a>(alloc: Global) -> Result<Command<'a>, AllocError>
     with_command(program, explain_command(alloc))
 }
 
-/// The same, and the commands that judge the run of a memo.
+/// The same, and the commands `audit` and `races`.
 #[inline(never)]
 fn judging_commands<'a>(alloc: Global) -> Result<Command<'a>, AllocError>
     ensures { IfOk result (λ c. app_of c ≡ line.judging_commands) }
@@ -230,7 +230,7 @@ fn judging_commands<'a>(alloc: Global) -> Result<Command<'a>, AllocError>
 ///
 /// # Errors
 ///
-/// An error where the host's memory ran out.
+/// An error if the host's memory ran out.
 #[inline(never)]
 pub fn command_line<'a>(alloc: Global) -> Result<Command<'a>, AllocError>
     ensures { IfOk result (λ c. app_of c ≡ line.command_line) }

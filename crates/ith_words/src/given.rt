@@ -1,4 +1,4 @@
-//! What the parser found in the words, for one of the operands or options of a command.
+//! The values that the parser found for the operands and options of a command.
 
 ghost use Rattle.std.specs.Prelude.{◌≡◌, ◌≤◌, map, codes, unwrap_or, option_map, [], IfOk, IfSome};
 ghost use Rattle.clap.specs.Words.{all_of, first_of, found_of, one_of, rows_of};
@@ -9,16 +9,16 @@ use clap::ArgMatches;
 use machine_spec::{Limits, MOST_FUEL, MOST_STEPS};
 use std::alloc::{AllocError, Global};
 
-/// How many workers there are where the line doesn't say.
+/// The default number of workers.
 const DEFAULT_WORKERS: u32 = 4;
 
-/// The most turns of a thunk where the line doesn't say.
+/// The default for the most turns of a thunk.
 const DEFAULT_FUEL: u32 = 1_000_000;
 
-/// The most steps of a run where the line doesn't say.
+/// The default for the most steps of a run.
 const DEFAULT_STEPS: u32 = 4096;
 
-/// The text of an operand, or the empty text where there is no such operand.
+/// The text of an operand, or the empty text if there is no such operand.
 #[tactic(auto, using(crate::proofs::Rows::first_value_of_rows))]
 pub fn operand_of<'a>(given: &ArgMatches<'a>, id: &str) -> &'a str
     ensures { result.now ≡ line.operand id.now (rows_of (found_of given.now)) }
@@ -29,7 +29,7 @@ pub fn operand_of<'a>(given: &ArgMatches<'a>, id: &str) -> &'a str
     }
 }
 
-/// The names of the edit lists, in the order of the line.
+/// The names of the edit lists, in the order of the command line.
 #[tactic(auto, using(crate::proofs::Rows::values_of_rows))]
 pub fn edits_of<'a>(alloc: Global, given: &ArgMatches<'a>) -> Result<Vec<&'a str>, AllocError>
     ensures { IfOk result (λ names. map (λ name. name.now) names.items ≡ line.edits_named (rows_of
@@ -41,7 +41,7 @@ pub fn edits_of<'a>(alloc: Global, given: &ArgMatches<'a>) -> Result<Vec<&'a str
     }
 }
 
-/// The limits of a run where the line names none.
+/// The default limits of a run.
 pub fn default_limits() -> Limits
     ensures { result ≡ record { fuel = line.default_fuel; steps = line.default_limit } }
 {
@@ -51,7 +51,7 @@ pub fn default_limits() -> Limits
     }
 }
 
-/// The number of an operand or option, if the line has one from the least to the most.
+/// The number of an operand or option, if the command line has one from `least` to `most`.
 fn number_of(given: &ArgMatches<'_>, id: &str, least: u32, most: u32) -> Option<u32>
     ensures value { result
         ≡ line.number_given least most (one_of id.now (rows_of (found_of given.now))) }
@@ -79,7 +79,7 @@ pub fn workers_of(given: &ArgMatches<'_>) -> u32
     number_of(given, "workers", 1, MOST_WORKERS).unwrap_or(DEFAULT_WORKERS)
 }
 
-/// The most turns of a thunk, if the line says.
+/// The most turns of a thunk, if `--fuel` is given.
 pub fn fuel_of(given: &ArgMatches<'_>) -> Option<u32>
     ensures value { result ≡ line.fuel_given (rows_of (found_of given.now)) }
     ensures within { IfSome result (λ fuel. (1 ≤ fuel) × (fuel ≤ MOST_FUEL)) }
@@ -87,7 +87,7 @@ pub fn fuel_of(given: &ArgMatches<'_>) -> Option<u32>
     number_of(given, "fuel", 1, MOST_FUEL)
 }
 
-/// The most steps of a run, if the line says.
+/// The most steps of a run, if `--steps` is given.
 pub fn steps_of(given: &ArgMatches<'_>) -> Option<u32>
     ensures value { result ≡ line.limit_given (rows_of (found_of given.now)) }
     ensures within { IfSome result (λ steps. (1 ≤ steps) × (steps ≤ MOST_STEPS)) }
@@ -108,7 +108,7 @@ pub fn limits_of(given: &ArgMatches<'_>) -> Limits
     }
 }
 
-/// The name of the memo to write, if the line has one.
+/// The name of the memo to write, if `--memo` is given.
 #[tactic(auto, using(crate::proofs::Rows::first_value_of_rows))]
 pub fn memo_of<'a>(given: &ArgMatches<'a>) -> Option<&'a str>
     ensures { option_map (λ name. name.now) result
@@ -117,10 +117,10 @@ pub fn memo_of<'a>(given: &ArgMatches<'a>) -> Option<&'a str>
     given.get_str("memo")
 }
 
-/// Whether the line has an option that has no argument.
+/// Whether this option, which has no argument, is given.
 pub fn flag_of(given: &ArgMatches<'_>, name: &str) -> bool
     ensures { result ≡ line.flag_named name.now (rows_of (found_of given.now)) }
 {
-    // the contract of `get_flag` says nothing of a text that is no `bool`
+    // the contract of `get_flag` says nothing about a text that isn't a `bool`
     given.get_one::<bool>(name).unwrap_or(false)
 }

@@ -1,4 +1,4 @@
-//! What the words of a command line ask for.
+//! The command line: what its arguments request.
 #![tactic(auto)]
 
 mod argument;

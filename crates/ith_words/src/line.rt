@@ -1,4 +1,4 @@
-//! What a command line asks for.
+//! The request that a command line encodes.
 
 ghost use Rattle.std.specs.Prelude.{◌≡◌, ◌≤◌, ◌-◌, ◌^◌, IfSome};
 ghost use Rattle.std.proofs.Props.{props};
@@ -7,40 +7,40 @@ ghost use Rattle.ith_words.specs.declared.line.TheConstants.{MOST_WORKERS, MOST_
 
 use machine_spec::Limits;
 
-/// The most workers that a line may ask for.
+/// The most workers that a command line may request.
 pub const MOST_WORKERS: u32 = 16;
 
 /// The greatest number that a guest is generated from.
 pub const MOST_NUMBER: u32 = u32::MAX;
 
-/// A line asks for at most 16 workers, and for a guest by any number of 32 bits.
+/// A command line requests at most 16 workers. A guest is generated from any 32-bit number.
 pub fn limits_are_as_documented()
     ensures workers { MOST_WORKERS ≡ 16 }
     ensures number { MOST_NUMBER ≡ 2 ^ 32 - 1 }
 {}
 
-/// What a line asks for.
+/// The request of a command line.
 #[derive(Drop)]
 pub enum Line<'a> {
-    /// A guest is run from scratch.
+    /// Run a guest from scratch.
     Run(RunLine<'a>),
-    /// A guest is run on from a memo.
+    /// Continue a guest from a memo.
     Rerun(RerunLine<'a>),
-    /// A schedule is replayed.
+    /// Replay a schedule.
     Replay(ReplayLine<'a>),
-    /// A memo is listed.
+    /// List a memo.
     Show(ShowLine<'a>),
-    /// It is told why steps were executed.
+    /// Say why steps were executed.
     Explain(ExplainLine<'a>),
-    /// A memo is audited.
+    /// Audit a memo.
     Audit(AuditLine<'a>),
-    /// It is told which steps race.
+    /// List the steps that race.
     FindRaces(RacesLine<'a>),
-    /// The generated guest is run.
+    /// Run a generated guest.
     Generate(GenerateLine),
 }
 
-/// A line that runs a guest.
+/// A `run` command line.
 #[derive(Drop)]
 pub struct RunLine<'a> {
     /// The name of the executable.
@@ -49,38 +49,38 @@ pub struct RunLine<'a> {
     pub input: &'a str,
     /// The names of the edit lists, in order.
     pub edits: Vec<&'a str>,
-    /// How many workers there are.
+    /// The number of workers.
     pub workers: u32,
     /// The most turns of a thunk, and the most steps of a run.
     pub limits: Limits,
-    /// The name of the memo to write, if there is to be one.
+    /// The name of the memo to write, if one is requested.
     pub new_memo: Option<&'a str>,
-    /// Whether the reports tell what an edit reaches.
+    /// Whether the reports state how many steps an edit reaches.
     pub reach: bool,
-    /// Whether the reports tell how many steps were made, as often as that was looked at meanwhile.
+    /// Whether the reports state how many steps were made, each time that this was read meanwhile.
     pub progress: bool,
     ghost some_worker: { 1 ≤ workers },
     ghost most_workers: { workers ≤ MOST_WORKERS },
 }
 
-/// A line that goes on from a memo.
+/// A `rerun` command line.
 #[derive(Drop)]
 pub struct RerunLine<'a> {
     /// The name of the memo to read.
     pub memo: &'a str,
     /// The names of the edit lists, in order.
     pub edits: Vec<&'a str>,
-    /// How many workers there are.
+    /// The number of workers.
     pub workers: u32,
-    /// The most turns of a thunk, if it isn't to be the memo's.
+    /// The most turns of a thunk, or `None` for the memo's.
     pub fuel: Option<u32>,
-    /// The most steps of a run, if it isn't to be the memo's.
+    /// The most steps of a run, or `None` for the memo's.
     pub steps: Option<u32>,
-    /// The name of the memo to write, if there is to be one.
+    /// The name of the memo to write, if one is requested.
     pub new_memo: Option<&'a str>,
-    /// Whether the reports tell what an edit reaches.
+    /// Whether the reports state how many steps an edit reaches.
     pub reach: bool,
-    /// Whether the reports tell how many steps were made, as often as that was looked at meanwhile.
+    /// Whether the reports state how many steps were made, each time that this was read meanwhile.
     pub progress: bool,
     ghost some_worker: { 1 ≤ workers },
     ghost most_workers: { workers ≤ MOST_WORKERS },
@@ -88,7 +88,7 @@ pub struct RerunLine<'a> {
     ghost steps_within: { IfSome steps (λ s. (1 ≤ s) × (s ≤ MOST_STEPS)) } by { Prim.hlevel props },
 }
 
-/// A line that replays a schedule.
+/// A `replay` command line.
 #[derive(Drop)]
 pub struct ReplayLine<'a> {
     /// The name of the executable.
@@ -101,14 +101,14 @@ pub struct ReplayLine<'a> {
     pub limits: Limits,
 }
 
-/// A line that lists a memo.
+/// A `show` command line.
 #[derive(Drop)]
 pub struct ShowLine<'a> {
     /// The name of the memo to read.
     pub memo: &'a str,
 }
 
-/// A line that tells why steps were executed.
+/// A `why` command line.
 #[derive(Drop)]
 pub struct ExplainLine<'a> {
     /// The name of the memo to read.
@@ -117,30 +117,30 @@ pub struct ExplainLine<'a> {
     pub edits: &'a str,
 }
 
-/// A line that audits a memo.
+/// An `audit` command line.
 #[derive(Drop)]
 pub struct AuditLine<'a> {
     /// The name of the memo to read.
     pub memo: &'a str,
-    /// How many workers there are.
+    /// The number of workers.
     pub workers: u32,
     ghost some_worker: { 1 ≤ workers },
     ghost most_workers: { workers ≤ MOST_WORKERS },
 }
 
-/// A line that tells which steps race.
+/// A `races` command line.
 #[derive(Drop)]
 pub struct RacesLine<'a> {
     /// The name of the memo to read.
     pub memo: &'a str,
 }
 
-/// A line that runs the generated guest.
+/// A `gen` command line.
 #[derive(Clone, Copy)]
 pub struct GenerateLine {
-    /// The number that guest, input and edit are generated from.
+    /// The number that the guest, its input and its edit are generated from.
     pub number: u32,
-    /// How many workers there are.
+    /// The number of workers.
     pub workers: u32,
     ghost some_worker: { 1 ≤ workers },
     ghost most_workers: { workers ≤ MOST_WORKERS },

@@ -1,4 +1,4 @@
-//! The words of the command line.
+//! The arguments of the command line.
 
 ghost use Rattle.std.specs.Prelude.{◌≡◌, map, option_and_then, option_map, string_bytes, [], IfOk, IfErr};
 ghost use Rattle.clap.specs.Words.{fault_of, found_of, rows_of, subcommand_of, subcommand_rows_of};
@@ -17,16 +17,16 @@ use clap::error::ErrorKind;
 use clap::{ArgMatches, Error};
 use std::alloc::{AllocError, Global};
 
-/// Why words give no line.
+/// Why arguments are no command line.
 #[derive(Drop)]
 pub enum LineFault {
-    /// They aren't accepted, or ask for help: the text to show.
+    /// They aren't accepted, or request help: the text to show.
     Refused(Vec<u8>),
     /// The host's memory ran out.
     Memory,
 }
 
-/// The text to show where words are refused: `words: ` and why. It is cut short where the host's memory runs out.
+/// The text to show if arguments are refused: `words: ` and why. It is cut short if the host's memory runs out.
 fn refusal(alloc: Global, why: &str) -> Vec<u8> {
     let mut text = Vec::new(alloc);
     let _ = text.extend_from_slice(b"words: ");
@@ -34,7 +34,8 @@ fn refusal(alloc: Global, why: &str) -> Vec<u8> {
     text
 }
 
-/// What an error of the parser says of the words, with the usage, or the help that they ask for.
+/// The fault for an error of the parser. Its text is why the arguments are refused, with the usage, or the help that
+/// they request.
 fn fault_by(alloc: Global, error: Error) -> LineFault
     ensures { WhyFault error result }
 {
@@ -47,7 +48,7 @@ fn fault_by(alloc: Global, error: Error) -> LineFault
     })
 }
 
-/// What the parser finds in the words.
+/// Parses the arguments.
 #[inline(never)]
 fn matches_given<'a>(alloc: Global, words: &'a [String]) -> Result<ArgMatches<'a>, LineFault>
     ensures faultless { IfOk result
@@ -66,7 +67,7 @@ fn matches_given<'a>(alloc: Global, words: &'a [String]) -> Result<ArgMatches<'a
     }
 }
 
-/// The line of what was found for the command that runs a guest.
+/// The `run` command line of the parsed arguments.
 fn run_line<'a>(alloc: Global, given: &ArgMatches<'a>) -> Result<RunLine<'a>, AllocError>
     ensures { IfOk result (λ said. run_said said ≡ line.run_line (rows_of (found_of given.now))) }
 {
@@ -86,7 +87,7 @@ fn run_line<'a>(alloc: Global, given: &ArgMatches<'a>) -> Result<RunLine<'a>, Al
     })
 }
 
-/// The line of what was found for the command that goes on from a memo.
+/// The `rerun` command line of the parsed arguments.
 fn rerun_line<'a>(alloc: Global, given: &ArgMatches<'a>) -> Result<RerunLine<'a>, AllocError>
     ensures { IfOk result (λ said. rerun_said said
         ≡ line.rerun_line (rows_of (found_of given.now))) }
@@ -107,7 +108,7 @@ fn rerun_line<'a>(alloc: Global, given: &ArgMatches<'a>) -> Result<RerunLine<'a>
     })
 }
 
-/// The line of what was found for the command that replays a schedule.
+/// The `replay` command line of the parsed arguments.
 fn replay_line<'a>(given: &ArgMatches<'a>) -> ReplayLine<'a>
     ensures { replay_said result ≡ line.replay_line (rows_of (found_of given.now)) }
 {
@@ -119,7 +120,7 @@ fn replay_line<'a>(given: &ArgMatches<'a>) -> ReplayLine<'a>
     }
 }
 
-/// The line of what was found for the command that lists a memo.
+/// The `show` command line of the parsed arguments.
 fn show_line<'a>(given: &ArgMatches<'a>) -> ShowLine<'a>
     ensures { show_said result ≡ line.show_line (rows_of (found_of given.now)) }
 {
@@ -128,7 +129,7 @@ fn show_line<'a>(given: &ArgMatches<'a>) -> ShowLine<'a>
     }
 }
 
-/// The line of what was found for the command that tells why steps were executed.
+/// The `why` command line of the parsed arguments.
 fn explain_line<'a>(given: &ArgMatches<'a>) -> ExplainLine<'a>
     ensures { explain_said result ≡ line.explain_line (rows_of (found_of given.now)) }
 {
@@ -138,7 +139,7 @@ fn explain_line<'a>(given: &ArgMatches<'a>) -> ExplainLine<'a>
     }
 }
 
-/// The line of what was found for the command that audits a memo.
+/// The `audit` command line of the parsed arguments.
 fn audit_line<'a>(given: &ArgMatches<'a>) -> AuditLine<'a>
     ensures { audit_said result ≡ line.audit_line (rows_of (found_of given.now)) }
 {
@@ -148,7 +149,7 @@ fn audit_line<'a>(given: &ArgMatches<'a>) -> AuditLine<'a>
     }
 }
 
-/// The line of what was found for the command that tells which steps race.
+/// The `races` command line of the parsed arguments.
 fn races_line<'a>(given: &ArgMatches<'a>) -> RacesLine<'a>
     ensures { races_said result ≡ line.races_line (rows_of (found_of given.now)) }
 {
@@ -157,7 +158,7 @@ fn races_line<'a>(given: &ArgMatches<'a>) -> RacesLine<'a>
     }
 }
 
-/// The line of what was found for the command that runs the generated guest.
+/// The `gen` command line of the parsed arguments.
 fn generate_line(given: &ArgMatches<'_>) -> GenerateLine
     ensures { generate_said result ≡ line.generate_line (rows_of (found_of given.now)) }
 {
@@ -167,7 +168,7 @@ fn generate_line(given: &ArgMatches<'_>) -> GenerateLine
     }
 }
 
-/// The line of a command's name and of what was found for it, if there is such a command.
+/// The command line of a command's name and its parsed arguments, if there is such a command.
 fn line_named<'a>(
     alloc: Global,
     name: &str,
@@ -189,7 +190,7 @@ fn line_named<'a>(
     }))
 }
 
-/// The line of what the parser found, if it is for a command that there is.
+/// The command line of the parsed arguments, if there is such a command.
 fn line_found<'a>(alloc: Global, given: &ArgMatches<'a>) -> Result<Option<Line<'a>>, AllocError>
     ensures { IfOk result (λ said. option_and_then line.line_named (subcommand_rows_of given.now)
         ≡ option_map line_said said) }
@@ -200,11 +201,11 @@ fn line_found<'a>(alloc: Global, given: &ArgMatches<'a>) -> Result<Option<Line<'
     }
 }
 
-/// What the words ask for. The first of them is the program's name.
+/// The command line of the arguments. The first argument is the program's name.
 ///
 /// # Errors
 ///
-/// `Refused` where the words aren't accepted, and `Memory` where the host's memory ran out.
+/// `Refused` if the arguments aren't accepted or request help, and `Memory` if the host's memory ran out.
 #[tactic(auto, unfolding(crate::specs::Words::line_of))]
 pub fn line_of<'a>(alloc: Global, words: &'a [String]) -> Result<Line<'a>, LineFault>
     ensures accepted { IfOk result (λ said. line.line_of (map string_bytes words.entry.now)
@@ -217,7 +218,7 @@ pub fn line_of<'a>(alloc: Global, words: &'a [String]) -> Result<Line<'a>, LineF
     };
     match line_found(alloc, &given) {
         Ok(Some(line)) => Ok(line),
-        // the parser takes no other command
+        // the parser accepts no other command
         Ok(None) => Err(LineFault::Refused(refusal(alloc, "no command"))),
         Err(_) => Err(LineFault::Memory),
     }

@@ -1,4 +1,4 @@
-//! The line that shows on a terminal how far a round is.
+//! The line that shows the progress of a round on a terminal.
 
 use ith_host::Gate;
 use std::fmt::{self, Display, Formatter};
@@ -6,17 +6,17 @@ use std::io::Eprint;
 use std::sync::atomic::{AtomicBool, AtomicU64, Ordering};
 use std::time::Clock;
 
-/// How many milliseconds of a round pass before the line is shown.
+/// The milliseconds from the beginning of a round until the line is shown.
 const FIRST: u64 = 1_000;
 
-/// How many pass until it is written over.
+/// The milliseconds until the line is overwritten.
 const AGAIN: u64 = 500;
 
-/// What takes the line away: back to its start, and all behind it is erased. (ECMA-48, 8.3.41)
+/// The text that removes the line: it moves to the line's start, and erases all that follows. (ECMA-48, 8.3.41)
 const ERASED: &str = "\r\x1b[K";
 
-/// A gate that lets everybody pass at once, and shows on standard error how far the round is, on one line that is
-/// written over. What can't be written there is left out.
+/// A gate that lets every worker pass at once, and shows the progress of the round on standard error, on one line that
+/// it overwrites. Failures to write there are ignored.
 #[derive(Drop)]
 pub struct Live<'a, R> {
     rt: &'a R,
@@ -29,7 +29,7 @@ pub struct Live<'a, R> {
     is_drawn: AtomicBool,
 }
 
-/// How far a round is.
+/// The progress of a round.
 #[derive(Drop)]
 struct Line {
     round: u64,
@@ -53,7 +53,7 @@ impl Display for Line {
 }
 
 impl<'a, R: Clock + Eprint> Live<'a, R> {
-    /// Shows nothing so far, and never anything if it isn't to.
+    /// Shows nothing so far, and never shows anything if `is_shown` is false.
     pub fn new(rt: &'a R, is_shown: bool) -> Self {
         Live {
             rt,
@@ -67,7 +67,7 @@ impl<'a, R: Clock + Eprint> Live<'a, R> {
         }
     }
 
-    /// The time in milliseconds; 0 if there is none to be had.
+    /// The time in milliseconds, or 0 if the clock fails.
     fn now(&self) -> u64 {
         match self.rt.monotonic() {
             Ok(time) => u64::try_from(time.as_millis()).unwrap_or(u64::MAX),
@@ -75,7 +75,7 @@ impl<'a, R: Clock + Eprint> Live<'a, R> {
         }
     }
 
-    /// Writes the line over the one that stands there.
+    /// Overwrites the line.
     fn draw(&self, now: u64) {
         let line = Line {
             round: self.round.load(Ordering::Relaxed),
@@ -116,7 +116,7 @@ impl<'a, R: Clock + Eprint> Gate for Live<'a, R> {
             return;
         }
         let next = now.saturating_add(AGAIN);
-        // Of several workers one draws.
+        // Only one of several workers draws.
         let ours = self
             .due
             .compare_exchange(due, next, Ordering::Relaxed, Ordering::Relaxed);

@@ -1,4 +1,4 @@
-//! The program: its words, the operating system as its host, the line that a terminal shows, and the exit status.
+//! The program: its arguments, the operating system as its host, the progress line on a terminal, and the exit status.
 #![tactic(auto)]
 
 mod live;
@@ -28,12 +28,12 @@ fn main(rt: HostRuntime) -> ExitCode {
     ExitCode::from(top(&rt, alloc, &words, &mut host, &live))
 }
 
-/// Whether a terminal is to show how far a round is: if standard error is one, unless `ITHREADS_QUIET` is set.
+/// Whether to show the progress of a round: if standard error is a terminal, unless `ITHREADS_QUIET` is set.
 fn is_shown(rt: &HostRuntime) -> bool {
     rt.stderr().is_terminal() && env::var(rt, "ITHREADS_QUIET").is_err()
 }
 
-/// The exit status where no memory was there for the words.
+/// The exit status if memory ran out while the arguments were collected.
 fn without_memory<H: Host>(host: &mut H) -> ExitCode {
     host.complain(b"no memory");
     ExitCode::from(Status::Memory.code())

@@ -21,8 +21,8 @@ fn add_immediate(rd: u8, rs1: u8, imm: u8) -> Item
     })
 }
 
-/// The guest of examples/hi.elf, as examples/README.md lists it, with zeros behind it; its second ECALL is given
-/// as its word.
+/// The guest of examples/hi.elf, as examples/README.md lists it, with zeros after it; its second ECALL is given as its
+/// word.
 fn hi(alloc: Global, bss: u32) -> Result<Vec<u8>, AllocError>
     requires { bss ≤ 0x1000 }
 {

@@ -1,9 +1,9 @@
-//! What no clause says: that lists are read and done with ample memory, and which lists are refused.
+//! What no clause says: that lists are read and applied with ample memory, and which lists are refused.
 use edit_list::*;
 use machine_spec::MOST_INPUT_BYTES;
 use std::alloc::{AllocError, Global};
 
-/// What becomes of a list.
+/// The outcome of a list.
 #[derive(Clone, Copy, PartialEq, Eq)]
 enum Outcome {
     Unread(ParseError),
@@ -15,7 +15,7 @@ use self::Outcome::{Done, Undone, Unread};
 use edit_list::ApplyError::OutOfRange;
 use edit_list::ParseError::BadLine;
 
-/// Reads a list, and does it to an input. A list that isn't read leaves the input.
+/// Reads a list, and applies it to an input. A list that isn't read doesn't change the input.
 fn tried(alloc: Global, list: &[u8], input: &mut Vec<u8>) -> Outcome {
     match parse(alloc, list) {
         Ok(edits) => match edits.apply(input) {
@@ -29,7 +29,7 @@ fn tried(alloc: Global, list: &[u8], input: &mut Vec<u8>) -> Outcome {
 /// An input of five bytes, 1 to 5.
 const FIVE: &[u8] = &[1, 2, 3, 4, 5];
 
-/// A list, what becomes of it and of the five bytes.
+/// A list, its outcome, and the five bytes after it.
 type Row = (&'static [u8], Outcome, &'static [u8]);
 
 const ROWS: [Row; 24] = [

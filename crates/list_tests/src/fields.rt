@@ -14,7 +14,7 @@ fn written(alloc: Global) -> Result<Vec<u8>, AllocError> {
     Ok(out.into_vec())
 }
 
-/// The numbers behind two bytes.
+/// The numbers after two bytes.
 fn read(bytes: &[u8]) -> Result<(u8, u16, u32, u64), Short> {
     let mut cursor = Cursor::new(bytes);
     cursor.bytes(2)?;

@@ -9,7 +9,7 @@ use std::fs;
 use std::io::{self, ErrorKind, Read, Write};
 use std::test::Fail;
 
-/// A source that gives at most `step` bytes at once, and fails where `fails_at` of its bytes are left.
+/// A source that gives at most `step` bytes at once, and fails when `fails_at` of its bytes remain.
 #[derive(Drop)]
 struct Source<'a> {
     left: &'a [u8],
@@ -77,7 +77,7 @@ fn keeps(host: &mut MemHost, name: &str, bytes: &[u8]) -> bool {
     }
 }
 
-/// Whether what is printed and complained stands one behind the other.
+/// Whether texts are printed one after the other, and a complaint ends with a newline.
 fn prints(host: &mut MemHost) -> bool {
     let printed = host.print(b"x") == Printed::Ok && host.print(b"yz") == Printed::Ok;
     host.complain(b"words: none");
@@ -109,7 +109,7 @@ const FAULTS: [Fault; 4] = [
     (3, Got::Ok, Put::Ok, Printed::Ok, b"xyz"),
 ];
 
-/// Whether of a read, a write and a print the named one fails, and the others do what they say.
+/// Whether only the named one of a read, a write and a print fails, and the others succeed.
 fn fails_alone(alloc: Global, fault: &Fault) -> Result<bool, AllocError> {
     let (number, got, put, printed, text) = *fault;
     let mut host = host_with(alloc, &[number], 2)?;

@@ -1,4 +1,4 @@
-//! What no clause says: that lists are done with ample memory. The inputs that are wanted are written down by hand.
+//! What no clause says: that lists are applied with ample memory. The expected inputs are written down by hand.
 use edit_list::*;
 use std::alloc::{AllocError, Global};
 
@@ -11,14 +11,14 @@ fn lists_of(alloc: Global, texts: &[&[u8]]) -> Result<Vec<Vec<u8>>, AllocError> 
     Ok(lists)
 }
 
-/// What these lists make of an input of five bytes, 1 to 5.
+/// The inputs that these lists make of five bytes, 1 to 5.
 fn made_of_five(alloc: Global, texts: &[&[u8]]) -> Result<Result<Inputs, InputsError>, AllocError> {
     let first = Vec::from_slice(alloc, FIVE)?;
     let lists = lists_of(alloc, texts)?;
     Ok(inputs_of(alloc, first, lists.as_slice()))
 }
 
-/// Whether the next input is this one, with so many to come behind it.
+/// Whether the next input is this one, and `left` more are to come.
 fn is_next(inputs: &mut Inputs, wanted: &[u8], left: usize) -> Result<bool, AllocError> {
     match inputs.take_next()? {
         Some(input) => Ok(input.as_slice() == wanted && inputs.len() == left),

@@ -1,4 +1,4 @@
--- What is there, part by part, after what a thunk asked for was done.
+-- The parts of a machine after a thunk's request was performed.
 use Rattle.std.specs.Prelude.{ℕ, List, Option, Some, None}
 use Rattle.memory_spec.specs.Pages.{Mapped, Memory}
 use Rattle.thunk_spec.specs.Put.{is_readable}
@@ -11,7 +11,7 @@ use Rattle.machine_spec.specs.Machine.{Hart}
 use Rattle.machine_spec.specs.Performing.{settled}
 use Rattle.machine_spec.specs.Step.{fate_end}
 
--- The harts, where thread t asked.
+-- The harts, if thread t made the request.
 abbrev pub harts_after : List Mapped → Objects → Memory → ℕ → List Hart → Asked → List Hart
 harts_after map o memory t harts (Asks call) = settled (act (is_readable map) o t call).0 memory t harts
 harts_after map o memory t harts (Stops e) = harts
@@ -21,7 +21,7 @@ abbrev pub objects_after : List Mapped → Objects → ℕ → Asked → Objects
 objects_after map o t (Asks call) = (act (is_readable map) o t call).1
 objects_after map o t (Stops e) = o
 
--- The end that what was asked makes by itself, whatever the harts then are.
+-- The end that a request leads to by itself, whatever the harts then are.
 abbrev pub own_end : List Mapped → Objects → ℕ → Asked → Option End
 own_end map o t (Asks call) = fate_end (act (is_readable map) o t call).0.fate
 own_end map o t (Stops e) = Some e

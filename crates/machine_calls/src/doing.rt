@@ -1,4 +1,4 @@
-//! What follows the writing of a thunk: the call that it asks for, and the end that is looked for.
+//! What follows the writing of a thunk's stores: the call that it requests, and the check whether the run ends.
 
 ghost use Rattle.std.specs.Prelude.{◌≡◌, ◌<◌, ◌≤◌, ◌+◌, ◌⊎◌, true, length, vec_len, vec_capacity, IfOk, OnOk, OnErr};
 ghost use Rattle.thunk_spec.specs.Put.{is_readable};
@@ -22,7 +22,7 @@ use std::alloc::AllocError;
 use sync_objects::{Effect, Objects};
 use thunk_spec::ThunkEnd;
 
-/// What thread `t`'s thunk with this end and these last registers asks of the machine.
+/// What thread `t`'s thunk with this end and these last registers requests of the machine.
 pub fn asked(t: u8, end: ThunkEnd, regs: &Regs) -> Asked
     ensures { result ≡ step.asked t end regs.now }
 {
@@ -33,7 +33,7 @@ pub fn asked(t: u8, end: ThunkEnd, regs: &Regs) -> Asked
     }
 }
 
-/// What the ECALL at these registers asks of the machine.
+/// What the ECALL at these registers requests of the machine.
 fn asked_call(t: u8, regs: &Regs) -> Asked
     ensures { result ≡ step.asked t ThunkEnd.Call regs.now }
 {
@@ -43,7 +43,7 @@ fn asked_call(t: u8, regs: &Regs) -> Asked
     }
 }
 
-/// To end by a trap at these registers.
+/// The request to end by a trap at these registers.
 fn trap(t: u8, regs: &Regs, cause: Cause) -> Asked
     ensures { result ≡ Asked.Stops (End.Trap t regs.now.pc cause) }
 {
@@ -115,7 +115,7 @@ fn is_any_ready<V: View>(harts: &[Hart<V>]) -> bool
     false
 }
 
-/// The end that the state makes.
+/// The end that the state leads to, if any.
 fn state_end<V: View>(harts: &[Hart<V>], limit: u32, steps: u32) -> Option<End>
     ensures { result ≡ step.state_end harts.now limit steps }
 {
@@ -140,8 +140,8 @@ fn end_after<V: View>(fate: Fate, harts: &[Hart<V>], limit: u32, steps: u32) -> 
     }
 }
 
-/// What a thunk that was written left, as far as the call after it doesn't change it: the page map, shared memory, the
-/// step limit, and how many steps were made.
+/// The state after a thunk's stores were written, as far as the call after it doesn't change it: the page map, shared
+/// memory, the step limit, and how many steps were made.
 #[derive(Clone, Copy)]
 pub struct Written<'a, V: View> {
     /// The page map.
@@ -150,11 +150,11 @@ pub struct Written<'a, V: View> {
     pub memory: &'a V,
     /// The most steps of the run.
     pub limit: u32,
-    /// How many steps were made, this one among them.
+    /// How many steps were made, this one included.
     pub steps: u32,
 }
 
-/// What was done as a thread asked.
+/// The result of what a thread requested.
 #[derive(Drop)]
 pub struct Acted {
     /// How the run ended, if it has.
@@ -163,13 +163,13 @@ pub struct Acted {
     pub effect: Option<Effect>,
 }
 
-/// Does what thread `t` asks, after its thunk was written, and looks for the end. The views that are given are those
-/// that were made ahead, and others where these don't suffice.
+/// Performs what thread `t` requests, after its thunk's stores were written, and checks whether the run ends. The views
+/// that are given are those that were made ahead, and new ones if these don't suffice.
 ///
 /// # Errors
 ///
-/// An error where the host's memory ran out, and only where there was no room for another hart, or fewer views were
-/// made ahead than can be given.
+/// An error if the host's memory ran out, and only if there was no room for another hart, or fewer views were made
+/// ahead than can be given.
 #[tactic(auto, using(crate::proofs::Asking::exists, crate::proofs::Asking::free, crate::proofs::Asking::below))]
 pub fn do_as_asked<V: View>(
     harts: &mut Vec<Hart<V>>,

@@ -1,4 +1,4 @@
-//! One hart, and what the effect of a call makes of it; and the harts at the start of a run.
+//! One hart, and how the effect of a call changes it; and the harts at the start of a run.
 
 ghost use Rattle.std.specs.Prelude.{◌≡◌, ◌<◌, ◌≤◌, ◌+◌, ◌*◌, ◌-◌, ◌^◌, [], ◌∷◌, suc, IfOk};
 ghost use Rattle.machine_spec.specs.Performing.{answered, returned, first_registers, first_hart};
@@ -20,10 +20,10 @@ const TP: u8 = 4;
 /// The first argument, and what a call answers (RISC-V ELF psABI, Register Convention).
 const A0: u8 = 10;
 
-/// The second argument, and what a call tells beside its answer (RISC-V ELF psABI, Register Convention).
+/// The second argument, and what a call reports besides its answer (RISC-V ELF psABI, Register Convention).
 const A1: u8 = 11;
 
-/// A hart, as the thread that runs on it has it between two steps.
+/// The hart of a thread, between two steps.
 #[derive(Drop)]
 pub struct Hart<V: View> {
     view: V,
@@ -88,14 +88,14 @@ impl<V: View> Hart<V> {
         self.status = Status::Ready;
     }
 
-    /// It has another status.
+    /// Sets its status.
     pub(super) fn set_status(&mut self, status: Status)
         ensures { self.new ≡ record self.old { status = status } }
     {
         self.status = status;
     }
 
-    /// Its thunk was written: it has these registers, and has made one step more.
+    /// Its thunk's stores were written: it has these registers, and has made one step more.
     pub(super) fn write_back(&mut self, regs: Regs)
         requires { self.old.number < 2 ^ 32 - 1 }
         ensures { self.new ≡ record self.old { regs = regs; number = suc self.old.number } }
@@ -137,7 +137,7 @@ impl<V: View> Hart<V> {
 ///
 /// # Errors
 ///
-/// An error where the host's memory ran out.
+/// An error if the host's memory ran out.
 pub fn first_harts<V: View>(
     alloc: Global,
     memory: &V,

@@ -16,7 +16,7 @@ use rv_isa::Regs;
 use std::alloc::AllocError;
 use sync_objects::{Effect, Queue};
 
-/// Thread `t`'s thunk was written: its hart has the last registers, and has made one step more.
+/// The stores of thread `t`'s thunk were written: its hart has the last registers, and has made one step more.
 pub fn write_back<V: View>(harts: &mut Vec<Hart<V>>, t: u8, regs: Regs)
     requires exists { t < length harts.old.items }
     requires few { (hart_in harts.old.items t).number < 2 ^ 32 - 1 }
@@ -29,8 +29,8 @@ pub fn write_back<V: View>(harts: &mut Vec<Hart<V>>, t: u8, regs: Regs)
     hart.write_back(regs);
 }
 
-/// How many views what is asked gives at most. Only who comes last to a barrier, or lets go a reader-writer lock, wakes
-/// more than one thread.
+/// How many views a request gives at most. Only the last thread at a barrier, or one that unlocks a reader-writer lock,
+/// wakes more than one thread.
 pub fn most_views(asked: Asked) -> usize
     ensures { result ≡ views.most_views asked }
 {
@@ -41,7 +41,7 @@ pub fn most_views(asked: Asked) -> usize
     }
 }
 
-/// One of the views that were made ahead, or another one where there is none.
+/// One of the views that were made ahead, or a new one if there is none.
 fn next_view<V: View>(memory: &V, views: &mut Vec<V>) -> Result<V, AllocError>
     requires { AreViewsOf V.pages (V.pages memory.now) views.old.items }
     ensures view { IfOk result (λ view. V.pages view ≡ V.pages memory.now) }
@@ -80,7 +80,7 @@ fn meet_fate<V: View>(
     Ok(())
 }
 
-/// The calls of waiting threads return with 0, and each is told something or nothing.
+/// The calls of waiting threads return with 0 in a0, and with `told` in a1 if there is one.
 fn wake<V: View>(
     harts: &mut [Hart<V>],
     memory: &V,
@@ -107,7 +107,7 @@ fn wake<V: View>(
     Ok(())
 }
 
-/// A thread begins, where one is created: it has the least number that is unused.
+/// Starts the created thread, if there is one: it has the least number that is unused.
 fn begin<V: View>(
     harts: &mut Vec<Hart<V>>,
     memory: &V,
@@ -128,12 +128,12 @@ fn begin<V: View>(
     Ok(())
 }
 
-/// Performs the effect of a call of thread `t`: the caller's fate, then the woken, then the created.
+/// Performs the effect of a call of thread `t`: the caller's fate, then the woken threads, then the created one.
 ///
 /// # Errors
 ///
-/// An error where the host's memory ran out, and only where there was no room for another hart, or fewer views were
-/// made ahead than are given.
+/// An error if the host's memory ran out, and only if there was no room for another hart, or fewer views were made
+/// ahead than are given.
 pub(super) fn settle<V: View>(
     harts: &mut Vec<Hart<V>>,
     memory: &V,

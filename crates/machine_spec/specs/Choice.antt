@@ -1,4 +1,4 @@
--- The choice of the next thread where there is no earlier run to go by.
+-- The choice of the next thread in a run that isn't based on an earlier one.
 use Rattle.std.specs.Prelude.{ℕ, zero, suc, Bool, ◌&&◌, ◌==◌, min, List, [], ◌∷◌, map, filter, position, Option, Some, None}
 use Rattle.machine_spec.specs.declared.states.End.{End}
 use Rattle.machine_spec.specs.Machine.{Hart, Machine, is_ready}
@@ -23,7 +23,7 @@ is_ready_at number h = is_ready h.status && (h.number == number)
 unfoldable pub choice : Machine → Option ℕ
 choice m = position (is_ready_at (least (ready_numbers m.harts))) m.harts
 
--- A schedule from a state on: nothing after an end, or where no thread is chosen; else the chosen thread and the rest.
+-- A schedule from a state on: nothing after an end, or if no thread is chosen; else the chosen thread and the rest.
 abbrev pub chosen_first : Option End → Option ℕ → (ℕ → List ℕ) → List ℕ
 chosen_first (Some e) chosen rest = []
 chosen_first None None rest = []

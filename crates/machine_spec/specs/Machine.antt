@@ -28,7 +28,7 @@ pub record Machine : Type 0 where
   pub steps : ℕ
   pub ending : Option End
 
--- What stands for a thread that doesn't exist: it isn't ready, and waits for nothing.
+-- The stand-in for a thread that doesn't exist: it isn't ready, and waits for nothing.
 abbrev pub nobody : Hart
 nobody = record { view = []; regs = record { pc = 0; x = [] }; number = 0; status = Ended 0 }
 

@@ -10,8 +10,8 @@ use Rattle.machine_spec.specs.declared.TheConstants.{STACKS, STACK_BYTES}
 use Rattle.machine_spec.specs.declared.states.Status.TheVariants.{Ready, Blocked, Ended}
 use Rattle.machine_spec.specs.Machine.{Hart, hart_in}
 
--- The registers after an answer: a0 has it, a1 what is told beside it, and the pc moves on by 4. (The registers' names
--- are the RISC-V ELF psABI's.)
+-- The registers after an answer: a0 has it, a1 the second value if there is one, and the pc moves on by 4. (The
+-- registers' names are the RISC-V ELF psABI's.)
 abbrev pub answered : Registers → ℕ → Option ℕ → Registers
 answered r a0 None = with_pc (with_register r 10 a0) (sum_of r.pc 4)
 answered r a0 (Some a1) = with_pc (with_register (with_register r 10 a0) 11 a1) (sum_of r.pc 4)
@@ -28,7 +28,7 @@ fated Blocks memory h = record h { status = Blocked }
 fated (Ends value) memory h = record h { status = Ended value }
 fated (Exits code) memory h = h
 
--- The harts after the calls of waiting threads returned with 0, each with what it is told.
+-- The harts after the calls of these waiting threads returned 0, and the same second value, if there is one.
 abbrev pub woken : Memory → Option ℕ → List ℕ → List Hart → List Hart
 woken memory told [] harts = harts
 woken memory told (u ∷ threads) harts =

@@ -14,7 +14,7 @@ abbrev pub is_permitted_from : Machine → List ℕ → Bool
 is_permitted_from m [] = true
 is_permitted_from m (t ∷ schedule) = can_step m t && is_permitted_from (step m t) schedule
 
--- Whether an end is there after the last entry.
+-- Whether there is an end after the last entry.
 abbrev pub is_complete_from : Machine → List ℕ → Bool
 is_complete_from m schedule = is_some (scratch_from m schedule).ending
 

@@ -39,12 +39,12 @@ written m t memory regs put =
       steps = suc m.steps;
     }
 
--- An ECALL asks for its call; one whose number is in no row of the table is a trap, at the ECALL.
+-- An ECALL requests its call; one whose number is in no row of the table is a trap, at the ECALL.
 abbrev pub asked_call : ℕ → Registers → Option Call → Asked
 asked_call t r (Some call) = Asks call
 asked_call t r None = Stops (end.Trap t r.pc BadCall)
 
--- What thread t's thunk with this end and these last registers asks.
+-- What thread t's thunk with this end and these last registers requests.
 abbrev pub asked : ℕ → ThunkEnd → Registers → Asked
 asked t thunk_end.Call r = asked_call t r (call_at r)
 asked t (thunk_end.Trap cause) r = Stops (end.Trap t r.pc cause)
@@ -79,7 +79,7 @@ performed m t r =
       ending = end_after (fate_end r.0.fate) (settled r.0 m.memory t m.harts) m.limit m.steps;
     }
 
--- The machine after what a thunk asked for was done.
+-- The machine after what a thunk requested was done.
 abbrev pub done_as_asked : Machine → ℕ → Asked → Machine
 done_as_asked m t (Asks call) = performed m t (act (is_readable m.frame.map) m.objects t call)
 done_as_asked m t (Stops e) = record m { ending = Some e }
@@ -89,7 +89,7 @@ done_as_asked m t (Stops e) = record m { ending = Some e }
 unfoldable pub finished : Machine → ℕ → Memory → Registers → ThunkEnd → List ℕ → Machine
 finished m t memory regs e put = done_as_asked (written m t memory regs put) t (asked t e regs)
 
--- One step of thread t: its thunk is run on its view, and its stores are laid over shared memory in order.
+-- One step of thread t: its thunk is run on its view, and its stores are applied to shared memory in order.
 unfoldable pub step : Machine → ℕ → Machine
 step m t =
     let done = thunk m.frame (hart_of m t).view (hart_of m t).regs in

@@ -18,8 +18,8 @@ ended_value Ready = None
 ended_value Blocked = None
 ended_value (Ended value) = Some value
 
--- Objects and harts agree: as many threads; who waits in a queue is Blocked, and no other; who has ended in the table
--- has ended.
+-- Objects and harts agree: they are of as many threads; exactly the threads that wait in a queue are Blocked; and a
+-- thread has ended, and with the same value, in both or in neither.
 pub record IsTied (o : Objects) (harts : List Hart) : Type 0 where
   pub threads : length o.threads ≡ length harts
   pub kept : IsKept o
@@ -31,8 +31,8 @@ pub record IsHartOf (map : List Mapped) (steps : ℕ) (h : Hart) : Type 0 where
   pub view : IsMemory map h.view
   pub number : h.number ≤ steps
 
--- Memory and harts are of the map and the run; objects and harts agree; fuel and limit are in range; and where there is
--- no end, a thread is ready and there are steps left.
+-- Memory and harts are of the map and the run; objects and harts agree; fuel and limit are in range; the machine has
+-- made no more steps than the limit; and if there is no end, a thread is ready and there is a step more to make.
 pub record IsWhole (m : Machine) : Type 0 where
   pub memory : IsMemory m.frame.map m.memory
   pub harts : AllByRecursion (IsHartOf m.frame.map m.steps) m.harts

@@ -29,7 +29,7 @@ pub const HEADER_PAGE: u32 = 0xC0000;
 pub const INPUT_PAGE: u32 = 0xC0001;
 /// How many pages the input has.
 pub const INPUT_PAGES: u32 = 256;
-/// Where the stacks begin: thread 0's is the first.
+/// The address at which the stacks begin: thread 0's is the first.
 pub const STACKS: u32 = 0xD000_0000;
 /// How many bytes each thread's stack has.
 pub const STACK_BYTES: u32 = 0x1_0000;
@@ -37,7 +37,7 @@ pub const STACK_BYTES: u32 = 0x1_0000;
 pub const STACK_PAGE: u32 = 0xD0000;
 /// How many pages the stacks have: 16 for each of 32 threads.
 pub const STACK_PAGES: u32 = 512;
-/// The most bytes that a run can put out: one put's, 4,096, at the end of each of the most steps.
+/// The most bytes that a run can output: one put's, 4,096, at the end of each of the most steps.
 pub const MOST_OUTPUT_BYTES: usize = 268_435_456;
 /// The most turns that a thunk may be allowed.
 pub const MOST_FUEL: u32 = 16_777_216;
@@ -60,7 +60,7 @@ pub fn first_is_whole()
     ensures { (setup : Setup) → IsSetup setup → IsWhole (first setup) }
 {}
 
-/// The pages of a setup stand in ascending order, each once.
+/// The pages of a setup are in ascending order, each once.
 pub fn map_ascends()
     ensures { (setup : Setup) → IsSetup setup → ascends_above 0 (map_of setup) ≡ true }
 {}
@@ -70,7 +70,7 @@ pub fn step_keeps_whole()
     ensures { (m : Machine) (t : ℕ) → IsWhole m → can_step m t ≡ true → IsWhole (step m t) }
 {}
 
-/// To apply a true record that fits is the step of its thread.
+/// Applying a true record that fits is the step of its thread.
 pub fn apply_is_step()
     ensures { (m : Machine) (r : Record)
         → IsWhole m
@@ -79,7 +79,7 @@ pub fn apply_is_step()
         → apply m r ≡ step m r.thread }
 {}
 
-/// The schedule that the choice gives is permitted, and there is an end after it.
+/// The schedule that follows the choice is permitted, and there is an end after it.
 pub fn alone_leads_to_an_end()
     ensures permitted { (setup : Setup) → IsSetup setup → is_permitted setup (alone setup) ≡ true }
     ensures complete { (setup : Setup) → IsSetup setup → is_complete setup (alone setup) ≡ true }

@@ -29,7 +29,7 @@ impl Model for Limits {
 }
 
 impl Limits {
-    /// These limits. None exactly where one of them is out of its range: 1 to `MOST_FUEL`, and 1 to `MOST_STEPS`.
+    /// These limits. None exactly if one of them is out of its range: 1 to `MOST_FUEL`, and 1 to `MOST_STEPS`.
     pub fn new(fuel: u32, steps: u32) -> Option<Limits>
         ensures made { IfSome result (λ l. l ≡ record { fuel = fuel; steps = steps }) }
         ensures within { IsTrue (is_some result) ↔ AreLimits fuel steps }

@@ -1,4 +1,4 @@
-//! The status of a thread, how a run ends, and what a thunk asks for.
+//! The status of a thread, how a run ends, and what a thunk requests.
 
 use guest_call::Call;
 use isa_spec::Cause;
@@ -34,7 +34,7 @@ pub enum End {
     Spent,
 }
 
-/// What the end of a thunk asks of the machine.
+/// What the end of a thunk requests of the machine.
 #[derive(Clone, Copy)]
 pub enum Asked {
     /// To do an environment call.

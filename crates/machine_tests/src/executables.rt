@@ -8,10 +8,10 @@ use std::alloc::{AllocError, Global};
 use std::process::Abort;
 use std::test::Fail;
 
-/// Bytes that stand from an offset on in place of those of the guest.
+/// Bytes that replace those of the guest from an offset on.
 type Change = (usize, &'static [u8]);
 
-/// The first bytes of the guest, or all of it with zeros behind it, up to a length; and then with changes.
+/// The first bytes of the guest, or all of it with zeros after it, up to a length; and then with changes.
 fn changed(alloc: Global, length: usize, changes: &[Change]) -> Result<Vec<u8>, AllocError> {
     let mut bytes = vec![in alloc; 0u8; length]?;
     for (place, byte) in bytes.iter_mut().zip(HI.iter()) {
@@ -25,8 +25,8 @@ fn changed(alloc: Global, length: usize, changes: &[Change]) -> Result<Vec<u8>, 
     Ok(bytes)
 }
 
-/// A second program header, which stands where the guest's text is: a segment of this size at this address, without
-/// bytes of the file.
+/// A second program header, in place of the guest's text: a segment of this size at this address, without bytes of the
+/// file.
 const TWO: Change = (44, b"\x02");
 
 const NONE_AT_0: Change = (
@@ -66,10 +66,10 @@ const AGAIN_AT_10023: Change = (
 /// The second program header is of dynamic linking.
 const DYNAMIC_SECOND: Change = (84, b"\x02\0\0\0");
 
-/// A file that is made by changes, up to a length, and what is said of it.
+/// A length and changes that make a file, and why it is refused, if it is.
 type Row = (usize, &'static [Change], Option<Refusal>);
 
-/// What the file's header and each program header by itself are refused for.
+/// Why files are refused for their header, or for one program header by itself.
 const ONE_HEADER: [Row; 38] = [
     (119, &[(0, b"\x7e")], Some(Refusal::NotElf)),
     (119, &[(1, b"\x46")], Some(Refusal::NotElf)),
@@ -131,7 +131,7 @@ const ONE_HEADER: [Row; 38] = [
     (119, &[(76, b"\xff\xff\xff\xff")], None),
 ];
 
-/// What two program headers, or more, are refused for.
+/// Why files are refused for two program headers, or more.
 const MORE_HEADERS: [Row; 13] = [
     (119, &[TWO], None),
     (119, &[TWO, DYNAMIC_SECOND], Some(Refusal::Dynamic(1))),
@@ -175,7 +175,7 @@ const MORE_HEADERS: [Row; 13] = [
     ),
 ];
 
-/// Compares what is said of each file.
+/// Compares the refusal of each file.
 fn compare<R: Abort>(rt: &R, alloc: Global, rows: &[Row]) -> Result<(), AllocError> {
     for (number, (length, changes, want)) in rows.iter().enumerate() {
         let file = changed(alloc, *length, *changes)?;
@@ -190,7 +190,7 @@ fn changed_files_are_refused(rt: HostRuntime) -> Result<(), AllocError> {
     compare(&rt, rt.alloc(), &MORE_HEADERS)
 }
 
-/// What the guest's file is refused for that is cut at a length.
+/// Why the guest's file is refused if it is cut at a length.
 fn refusal_at(length: usize) -> Refusal {
     if length < 52 {
         Refusal::NotElf
@@ -218,7 +218,7 @@ fn image_of(alloc: Global, file: &[u8]) -> Result<Image, Fail> {
     }
 }
 
-/// Whether an image begins at the guest's address and has so many pages.
+/// Whether an image begins at the guest's address and has `count` pages.
 fn has_pages(image: &Image, count: usize) -> bool {
     image.entry == 0x10000 && image.map.len() == count && image.pages.len() == count
 }
@@ -245,7 +245,7 @@ fn images_of_guests(rt: HostRuntime) -> Result<(), Fail> {
     Ok(())
 }
 
-// two pages and a byte of zeros behind the text, a byte of another segment before it, and text that may not be written
+// two pages and a byte of zeros after the text, a byte of another segment before it, and text that may not be written
 #[test]
 fn images_of_two_segments(rt: HostRuntime) -> Result<(), Fail> {
     let changes = [TWO, ONE_AT_FFFF, (72, b"\0\x20"), (76, b"\x05")];

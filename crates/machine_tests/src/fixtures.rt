@@ -1,4 +1,4 @@
-//! The guest `hi`, which puts out 3 bytes by 5 instructions and exits by 3 more.
+//! The guest `hi`, which outputs 3 bytes by 5 instructions and exits by 3 more.
 
 /// lui a0,0x10; addi a0,a0,0x20; addi a1,x0,3; addi a7,x0,1; ecall; addi a0,x0,0; addi a7,x0,0;
 /// ecall; and "hi\n": 35 bytes at 0x10000, in one segment. Its file ends with them.

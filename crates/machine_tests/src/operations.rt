@@ -5,7 +5,7 @@ use rv_code::{Code, CodePage, Kind, Operation, WORDS};
 use std::alloc::{AllocError, Global};
 use std::sync::Arc;
 
-/// A word, the address where it lies, and its operation: the kind, the registers rd, rs1 and rs2, and the immediate.
+/// A word, its address, and its operation: the kind, the registers rd, rs1 and rs2, and the immediate.
 type Row = (u32, u32, Kind, [u8; 3], u32);
 
 const ROWS: [Row; 28] = [

@@ -24,7 +24,7 @@ const SELF: [u8; 28] = [
 /// jal x0,0: a loop of one instruction.
 pub(super) const LOOP: [u8; 4] = [0x6f, 0x00, 0x00, 0x00];
 
-/// The first thunk of a guest with this code at 0x10000 and a page of zeros behind it.
+/// The first thunk of a guest with this code at 0x10000 and a page of zeros after it.
 pub(super) fn job_of(alloc: Global, code: &[u8], fuel: u32) -> Result<Job, AllocError> {
     let mut bytes = [0; 4096];
     for (place, byte) in bytes.iter_mut().zip(code.iter()) {
@@ -44,13 +44,13 @@ pub(super) fn job_of(alloc: Global, code: &[u8], fuel: u32) -> Result<Job, Alloc
     Ok(Job::new(frame, 3, 7, Regs::new(0x10000), view))
 }
 
-/// The first thunk of a guest with this code, run with nobody who looks at the counter.
+/// The first thunk of a guest with this code, run without a watch.
 fn run_of<R: Threads>(rt: &R, alloc: Global, code: &[u8], fuel: u32) -> Result<Run, AllocError> {
     let job = job_of(alloc, code, fuel)?;
     execute(alloc, &job, &mut Turns::new(rt))
 }
 
-/// Whether a run ended so after so many turns.
+/// Whether a run ended in this way, after this many turns, at this pc.
 fn is_ended(run: &Run, end: ThunkEnd, count: u32, pc: u32) -> bool {
     run.rec.end() == end && run.rec.count() == count && run.rec.finish().pc() == pc
 }
@@ -65,7 +65,7 @@ fn put_ends_the_first_thunk(rt: HostRuntime) -> Result<(), AllocError> {
     Ok(())
 }
 
-/// Whether a run read its code as it was, and left it with another byte at 0x12.
+/// Whether a run read its code as it was, and changed the byte at 0x12.
 fn changed_its_code(run: &Run) -> bool {
     match (run.rec.reads().pages(), run.rec.delta().pages()) {
         ([read], [page]) => {
@@ -87,7 +87,7 @@ fn stores_into_code_are_seen_and_kept(rt: HostRuntime) -> Result<(), AllocError>
     Ok(())
 }
 
-/// A watch that counts what it is told.
+/// A watch that counts its calls.
 #[derive(Drop)]
 struct CountingWatch {
     times: AtomicU64,
@@ -99,7 +99,7 @@ impl Watch for CountingWatch {
     }
 }
 
-/// How often a watch is told by the first thunk of a guest with this code, which makes so many turns.
+/// The turns of the first thunk of a guest with this code, and how often it calls its watch.
 fn times_told<R: Threads>(
     rt: &R,
     alloc: Global,

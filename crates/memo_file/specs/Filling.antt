@@ -9,7 +9,7 @@ filled p [] = []
 filled zero (x ∷ m) = false ∷ filled zero m
 filled (suc p) (x ∷ m) = x ∷ filled p m
 
--- A page is filled at the marks before a place, with so many bytes.
+-- A page is filled at the marks before place p, with the first `next` bytes.
 pub record Filled (m : List Bool) (bytes : List ℕ) (p : ℕ) (marked : List Bool) (written : List ℕ) (next : ℕ) : Type 0
   where
     pub within : p ≤ length m

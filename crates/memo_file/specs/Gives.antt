@@ -1,10 +1,10 @@
--- What a function that reads gives, against the reader of the definitions.
+-- What a function that reads returns, compared with the reader of the definitions.
 use Rattle.std.specs.Prelude.{◌≡◌, ⊤, Result, Ok, Err}
 use Rattle.memo_spec.specs.declared.Refusal.{Refusal}
 use Rattle.memo_file.specs.declared.error.ReadError.{ReadError}
 use Rattle.memo_file.specs.declared.error.ReadError.TheVariants as errors
 
--- A function fails where the reader does, for the same reason, or memory ran out.
+-- A function failed because the reader does, for the same reason, or because memory ran out.
 abbrev pub Fails : {Y : Type 0} → ReadError → Result Y Refusal → Type 0
 Fails errors.NoMemory read = ⊤
 Fails (errors.Refused refusal) read = read ≡ Err refusal

@@ -1,4 +1,4 @@
--- Records that were read so far.
+-- The records that were read so far.
 use Rattle.std.specs.Prelude.{◌≡◌, ◌<◌, ◌==◌, ℕ, List, slice_index}
 use Rattle.std.specs.List.{count_by}
 use Rattle.guest_call.specs.declared.thread_number.TheConstants.{THREADS}
@@ -11,7 +11,7 @@ pub record Growth : Type 0 where
   pub records : List Record
   pub used : ℕ
 
--- Where the record behind them is read.
+-- The state in which the record after them is read.
 abbrev pub state_of : Growth → RecordState
 state_of g = record { earlier = threads_of_records g.records; used = g.used }
 

@@ -10,13 +10,13 @@ use Rattle.memo_spec.specs.declared.Refusal.TheVariants.{Limit}
 use Rattle.memo_spec.specs.Reader.{Reader, ◌>>=◌, done, bytes_at, number_at, limited}
 use Rattle.memo_spec.specs.Reading.{is_within, accepted}
 
--- An executable, which is accepted, behind its length.
+-- An executable, which is accepted, after its length.
 abbrev pub elf_at : Reader (List ℕ)
 elf_at = do
   length ← limited (number_at w32) (is_within 0 MOST_ELF_BYTES) (Limit limit.Elf)
   bytes_at length >>= λ bytes. accepted (refusal_of bytes) bytes
 
--- An input behind its length.
+-- An input after its length.
 abbrev pub input_at : Reader (List ℕ)
 input_at = do
   length ← limited (number_at w32) (is_within 0 MOST_INPUT_BYTES) (Limit limit.Input)

@@ -1,4 +1,4 @@
--- A pool of which all is used.
+-- A pool whose pages are all used.
 use Rattle.std.specs.Prelude.{ℕ, ◌==◌, Bool, List, length}
 use Rattle.thunk_spec.specs.Record.{Record}
 use Rattle.memo_spec.specs.Reading.{RecordState}

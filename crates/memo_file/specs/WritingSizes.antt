@@ -12,7 +12,7 @@ stored_size d = 516 + length d.bytes
 abbrev pub record_size : Record → ℕ
 record_size r = 266 + 8 * length r.kept.reads + sum_by stored_size r.kept.delta
 
--- A memo whose pool has so many pages: 68 bytes that each has, executable, input, pool and records.
+-- A memo whose pool has this many pages: 68 bytes that each has, executable, input, pool and records.
 abbrev pub memo_size : History → ℕ → ℕ
 memo_size h pool =
     68 + length h.setup.elf + length h.setup.input + 4096 * pool + sum_by record_size h.records

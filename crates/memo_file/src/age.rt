@@ -78,7 +78,8 @@ fn read_byte(pages: &[ReadPage], slot: usize, offset: usize) -> Option<u8>
     None
 }
 
-/// The byte that a record tells of an address, as its thunk left it: one that was stored, or else one that was read.
+/// The byte at an address that a record gives, as it was after its thunk: one that was stored, or else one that was
+/// read.
 fn told_byte(slots: &PageMap, rec: &Record, address: u64) -> Option<u8>
     requires { AreAddressable slots.now }
     ensures { result ≡ told_byte slots.now rec.now.kept address }
@@ -91,7 +92,7 @@ fn told_byte(slots: &PageMap, rec: &Record, address: u64) -> Option<u8>
     }
 }
 
-/// The word of four bytes, the lowest first, where all are there.
+/// The word of four bytes, the lowest first, if all are there.
 fn whole_word(a: Option<u8>, b: Option<u8>, c: Option<u8>, d: Option<u8>) -> Option<u32>
     ensures { result ≡ whole_word a b c d }
 {
@@ -106,7 +107,7 @@ fn whole_word(a: Option<u8>, b: Option<u8>, c: Option<u8>, d: Option<u8>) -> Opt
     }
 }
 
-/// The word that a record tells of an address, where it tells each of its bytes.
+/// The word at an address that a record gives, if it gives each of its bytes.
 fn told_word(slots: &PageMap, rec: &Record, address: u32) -> Option<u32>
     requires { AreAddressable slots.now }
     ensures { result ≡ told_word slots.now rec.now.kept address }
@@ -120,7 +121,7 @@ fn told_word(slots: &PageMap, rec: &Record, address: u32) -> Option<u32>
     )
 }
 
-/// Whether a record ended by an illegal instruction where it tells one of M.
+/// Whether a record ended by an illegal instruction, and gives an instruction of M at its last pc.
 fn ends_at_m(slots: &PageMap, rec: &Record) -> bool
     requires { AreAddressable slots.now }
     ensures { result ≡ ends_at_m slots.now rec.now }
@@ -138,7 +139,7 @@ fn ends_at_m(slots: &PageMap, rec: &Record) -> bool
     }
 }
 
-/// Refuses a history whose last record ended by an illegal instruction that is one of M today. Takes no memory.
+/// Refuses a history whose last record ended by an illegal instruction that is one of M today. Allocates no memory.
 fn refuse_before_m(slots: &PageMap, history: &History) -> Result<(), ReadError>
     requires slots { slots.now ≡ map_of history.now.setup }
     requires sound { IsSetup history.now.setup }
@@ -168,7 +169,7 @@ fn ends_at_lock(rec: &Record) -> bool
     }
 }
 
-/// Refuses a history whose last record ended by a call of a reader-writer lock. Takes no memory.
+/// Refuses a history whose last record ended by a call of a reader-writer lock. Allocates no memory.
 fn refuse_before_locks(history: &History) -> Result<(), ReadError>
     ensures today { IfOk result (λ _. is_before_locks history.now ≡ false) }
     ensures before { IfErr result
@@ -187,7 +188,7 @@ fn refuse_before_locks(history: &History) -> Result<(), ReadError>
     }
 }
 
-/// Refuses a history that is old in a format. In version 2 none is. Takes no memory.
+/// Refuses a history that is old in a format. In version 2 none is. Allocates no memory.
 pub fn refuse_old(format: Format, slots: &PageMap, history: &History) -> Result<(), ReadError>
     requires slots { slots.now ≡ map_of history.now.setup }
     requires sound { IsSetup history.now.setup }

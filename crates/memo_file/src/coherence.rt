@@ -1,4 +1,4 @@
-//! Whether the records of a history hold together.
+//! Whether a history is coherent.
 
 ghost use Rattle.std.specs.Prelude.{◌≡◌, ◌≤◌, length};
 ghost use Rattle.memo_spec.specs.Reading.{incoherent_from, coherent_or};
@@ -8,8 +8,8 @@ use crate::error::ReadError;
 use memo_spec::Refusal;
 use release_core::{ApplyError, Core, History};
 
-/// Applies the records of a history one after the other, from a machine on: each has to fit what those before it leave,
-/// and the last one alone has to bring the end.
+/// Applies the records of a history one after the other, from a machine on: each has to fit after those before it, and
+/// the end has to come with the last one.
 pub fn hold_together(mut core: Core, history: &History) -> Result<(), ReadError>
     ensures { Gives (λ _. history.now) result
         (coherent_or (incoherent_from 0 core history.now.records) history.now) }

@@ -13,7 +13,7 @@ use ith_text::Cursor;
 use memo_spec::{Limit, Refusal};
 use rv_isa::Regs;
 
-/// So many bytes.
+/// The next `count` bytes.
 #[tactic(auto, using(crate::proofs::Taken::run_taken, crate::proofs::Taken::run_short))]
 pub fn run<'a>(cursor: &mut Cursor<'a>, count: usize) -> Result<&'a [u8], ReadError>
     ensures count { IfOk result (λ piece. length piece.now ≡ count) }
@@ -66,7 +66,7 @@ pub fn byte(cursor: &mut Cursor) -> Result<u8, ReadError>
     }
 }
 
-/// A byte below a bound. Another one is against its rule.
+/// A byte below a bound. Any other breaks its rule.
 pub fn byte_below(cursor: &mut Cursor, bound: u8) -> Result<u8, ReadError>
     ensures below { IfOk result (λ v. v < bound) }
     ensures given { Gives (λ v. (v, cursor.new)) result
@@ -82,7 +82,7 @@ pub fn byte_below(cursor: &mut Cursor, bound: u8) -> Result<u8, ReadError>
     }
 }
 
-/// A number within a range. Another one is against its rule.
+/// A number within a range. Any other breaks its rule.
 pub fn word_within(cursor: &mut Cursor, low: u32, high: u32) -> Result<u32, ReadError>
     ensures given { Gives (λ v. (v, cursor.new)) result
         (ruled (number_at w32) (is_within low high) cursor.old) }
@@ -97,7 +97,7 @@ pub fn word_within(cursor: &mut Cursor, low: u32, high: u32) -> Result<u32, Read
     }
 }
 
-/// This number. Another one is against its rule.
+/// This number. Any other breaks its rule.
 pub fn word_that_is(cursor: &mut Cursor, number: u32) -> Result<(), ReadError>
     ensures given { Gives (λ _. (number, cursor.new)) result
         (ruled (number_at w32) (λ n. n == number) cursor.old) }
@@ -112,7 +112,7 @@ pub fn word_that_is(cursor: &mut Cursor, number: u32) -> Result<(), ReadError>
     }
 }
 
-/// A number that has a limit: out of its range it has a refusal of its own.
+/// A number that has a limit: out of its range it is refused for that limit.
 pub fn limited(cursor: &mut Cursor, low: u32, high: u32, limit: Limit) -> Result<u32, ReadError>
     ensures within { IfOk result (λ v. (low ≤ v) × (v ≤ high)) }
     ensures given { Gives (λ v. (v, cursor.new)) result

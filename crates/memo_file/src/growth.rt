@@ -1,4 +1,4 @@
-//! Records that were read so far, and what the next one is read against.
+//! The records that were read so far, and what the next one is read against.
 
 ghost use Rattle.std.specs.Prelude.{◌≡◌, ◌<◌, ◌==◌, ◌++◌, ◌∷◌, [], length, OnOk, OnErr};
 ghost use Rattle.std.specs.List.{count_by};
@@ -43,7 +43,7 @@ impl Model for Growing {
 }
 
 impl Growing {
-    /// No record yet. Takes no memory.
+    /// No record yet. Allocates no memory.
     pub fn new(alloc: Global) -> Growing
         ensures { result ≡ record { records = []; used = 0 } }
     {
@@ -69,11 +69,11 @@ impl Growing {
         self.used
     }
 
-    /// A record more, after which so many pages of the pool are used.
+    /// Adds a record, after which `used` pages of the pool are used.
     ///
     /// # Errors
     ///
-    /// An error where the host's memory ran out.
+    /// An error if the host's memory ran out.
     pub fn push(&mut self, alloc: Global, rec: Record, used: usize) -> Result<(), AllocError>
         requires few { length self.old.records < MOST_STEPS }
         requires thread { rec.thread < THREADS }
@@ -89,7 +89,7 @@ impl Growing {
         Ok(())
     }
 
-    /// The records. Takes no memory.
+    /// The records. Allocates no memory.
     pub fn into_records(self) -> Records
         ensures { result ≡ self.records }
     {

@@ -1,4 +1,4 @@
-//! Memo files: a history that bytes encode is read from them, and its bytes are written.
+//! Memo files: reads the history that bytes encode, and writes the bytes of a history.
 #![tactic(auto)]
 
 mod age;

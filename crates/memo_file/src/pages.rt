@@ -19,7 +19,7 @@ use page_store::{PageMap, ReadPage, Slot};
 use std::alloc::Global;
 use std::sync::Arc;
 
-/// The slot of an address, or how many pages there are where none has it, as behind the last address.
+/// The slot of an address, or the number of pages if none has it, as for the address after the last one.
 pub fn slot_or_end(slots: &PageMap, address: u64) -> usize
     requires { AreAddressable slots.now }
     ensures { result ≡ slot_of slots.now address }
@@ -79,7 +79,7 @@ fn read_page(
     Ok((ReadPage::new(slot, page), used))
 }
 
-/// So many read pages; the least slot of a next one, and how many pages of the pool are used after them.
+/// The next `count` read pages; the least slot of a next one, and how many pages of the pool are used after them.
 pub fn read_pages(
     alloc: Global,
     cursor: &mut Cursor,

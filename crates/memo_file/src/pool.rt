@@ -27,7 +27,7 @@ fn page_of(piece: &[u8]) -> Page
     Page::new(bytes)
 }
 
-/// A page that is none of those that were seen.
+/// A page that equals none of those that were seen.
 #[tactic(auto, unfolding(memo_spec::specs::Reading::pool_page_at))]
 fn pool_page<'a>(
     cursor: &mut Cursor<'a>,
@@ -48,7 +48,7 @@ fn pool_page<'a>(
     }
 }
 
-/// So many pages, of which no two are equal. No room is made before they are found to be there.
+/// The next `count` pages, of which no two are equal. No memory is reserved before they are found to be there.
 pub fn read_pool(
     alloc: Global,
     cursor: &mut Cursor,

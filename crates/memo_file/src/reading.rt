@@ -1,4 +1,4 @@
-//! A memo is read.
+//! Reading a memo.
 
 ghost use Rattle.std.specs.Prelude.{◌≡◌, ◌<◌, ◌≤◌, ℕ, true, false, length, drop, slice_index, IfOk, IfErr};
 ghost use Rattle.memory_spec.specs.Pages.{AreAddressable};
@@ -29,7 +29,7 @@ use release_core::{Core, History, Records, Setup};
 use sha2::{Digest, Sha256};
 use std::alloc::Global;
 
-/// The records of a memo of this setup, so many, behind their pool, of which they use each page.
+/// The `entries` records of a memo of this setup, after their pool, of which they use each page.
 #[tactic(auto, unfolding(memo_spec::specs::Reading::pool_and_records_at))]
 fn pool_and_records(
     alloc: Global,
@@ -76,7 +76,7 @@ fn read_history(alloc: Global, cursor: &mut Cursor) -> Result<(History, Core), R
     Ok((History::new(setup, records), core))
 }
 
-/// A history behind its profile, and the machine that it starts as.
+/// A history after its profile, and the machine that it starts as.
 fn read_profiled(alloc: Global, cursor: &mut Cursor) -> Result<(History, Core), ReadError>
     requires bytes { (i : ℕ) → slice_index cursor.old.left i < 256 }
     ensures core { IfOk result (λ x. x.1 ≡ first x.0.setup) }
@@ -87,7 +87,7 @@ fn read_profiled(alloc: Global, cursor: &mut Cursor) -> Result<(History, Core), 
     read_history(alloc, cursor)
 }
 
-/// A history from behind the version on, and the machine that it starts as.
+/// A history after the version, and the machine that it starts as.
 fn read_behind_version(
     alloc: Global,
     cursor: &mut Cursor,
@@ -104,8 +104,7 @@ fn read_behind_version(
     }
 }
 
-/// Refuses a history that is old in a format, or else one that doesn't hold together. `core` is the machine that it
-/// starts as.
+/// Refuses a history that is old in a format, or else one that isn't coherent. `core` is the machine that it starts as.
 #[tactic(auto, using(crate::proofs::Ending::map_is))]
 fn judge(core: Core, history: &History, format: Format) -> Result<(), ReadError>
     requires core { core ≡ first history.now.setup }
@@ -116,7 +115,7 @@ fn judge(core: Core, history: &History, format: Format) -> Result<(), ReadError>
     hold_together(core, history)
 }
 
-/// A reader behind the magic number and the version.
+/// A reader after the magic number and the version.
 fn behind_opening<'a>(text: &'a [u8]) -> Cursor<'a>
     requires { 8 ≤ length text.now }
     ensures { result ≡ record { taken = 8; left = drop 8 text.now } }
@@ -128,7 +127,7 @@ fn behind_opening<'a>(text: &'a [u8]) -> Cursor<'a>
     }
 }
 
-/// What all bytes but the digest are taken as.
+/// The history that all bytes but the digest are taken as.
 #[tactic(auto, unfolding(memo_spec::specs::Reading::taken_as))]
 fn read_text(alloc: Global, format: Format, text: &[u8]) -> Result<History, ReadError>
     requires { 8 ≤ length text.now }
@@ -156,7 +155,7 @@ fn format_of(version: u32) -> Option<Format>
     }
 }
 
-/// The format, and all bytes but the digest, where the digest is theirs.
+/// The format, and all bytes but the digest, if the digest is theirs.
 #[tactic(auto, unfolding(memo_spec::specs::Reading::reading))]
 fn open(bytes: &[u8]) -> Result<(Format, &[u8]), ReadError>
     ensures size { IfOk result (λ x. 8 ≤ length x.1.now) }
@@ -180,7 +179,7 @@ fn open(bytes: &[u8]) -> Result<(Format, &[u8]), ReadError>
     Ok((format, text))
 }
 
-/// What bytes are taken as.
+/// The history that bytes are taken as.
 fn read_bytes(alloc: Global, bytes: &[u8]) -> Result<History, ReadError>
     ensures { Gives (λ h. h) result (reading bytes.now) }
 {
@@ -188,13 +187,13 @@ fn read_bytes(alloc: Global, bytes: &[u8]) -> Result<History, ReadError>
     read_text(alloc, format, text)
 }
 
-/// The history that the bytes of a memo encode, in version 1 or 2. It holds together, and in version 1 it isn't old.
-/// What `write` writes of a history that holds together is read as it.
+/// The history that the bytes of a memo encode, in version 1 or 2. It is coherent, and in version 1 it isn't old. What
+/// `write` writes of a coherent history is read as that history.
 ///
 /// # Errors
 ///
-/// `Refused` with the first reason not to take the bytes, exactly where there is one, or `NoMemory` where the
-/// host's memory ran out.
+/// `Refused` with the first reason not to take the bytes, exactly if there is one, or `NoMemory` if the host's memory
+/// ran out.
 pub fn read(alloc: Global, bytes: &[u8]) -> Result<History, ReadError>
     ensures encoded { IfOk result (λ h. IsTaken bytes.now h) }
     ensures refused { IfErr result (λ e. Fails e (reading bytes.now)) }

@@ -24,7 +24,7 @@ use std::alloc::Global;
 use thunk_record::{Kept, Record};
 use thunk_spec::ThunkEnd;
 
-/// The end of a number.
+/// The end that a number encodes.
 fn end(number: u8) -> ThunkEnd
     requires { number < 10 }
     ensures { result ≡ end_of number }
@@ -43,7 +43,7 @@ fn end(number: u8) -> ThunkEnd
     }
 }
 
-/// The record behind others, and how many pages of the pool are used after it.
+/// The record after others, and how many pages of the pool are used after it.
 fn record(
     alloc: Global,
     cursor: &mut Cursor,
@@ -89,7 +89,7 @@ fn record(
     Ok((made, used))
 }
 
-/// So many records, in order.
+/// The next `entries` records, in order.
 pub fn read_records(
     alloc: Global,
     cursor: &mut Cursor,

@@ -58,7 +58,7 @@ fn read_limits(cursor: &mut Cursor) -> Result<Limits, ReadError>
     Ok(limits(fuel, steps))
 }
 
-/// The setup: the executable, which is looked at before the input is read, the input, and the limits.
+/// The setup: the executable, which is checked before the input is read, the input, and the limits.
 pub fn read_setup(alloc: Global, cursor: &mut Cursor) -> Result<Setup, ReadError>
     ensures { Gives (λ s. (s, cursor.new)) result (setup_at cursor.old) }
 {

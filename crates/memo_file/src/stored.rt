@@ -35,8 +35,8 @@ fn count_marks(marks: &[u8]) -> usize
     count
 }
 
-/// Writes bytes, in order, at the marked ones of the eight places of a byte of marks, and marks these. The first byte
-/// that wasn't written follows.
+/// Writes bytes, in order, at those of eight places that a byte of marks marks, and marks these. Returns the place of
+/// the first byte that wasn't written.
 fn fill_eight(
     stored: &mut StoredPage,
     marks: &[u8],
@@ -66,7 +66,7 @@ fn fill_eight(
 }
 
 /// Writes bytes, in order, at the places of a blank page that are marked, and marks these. Eight places without a mark,
-/// as most are, are passed over at once.
+/// as most are, are skipped at once.
 fn fill(stored: &mut StoredPage, marks: &[u8], bytes: &[u8])
     requires blank { stored.old ≡ record { page = zero_page; mask = no_marks } }
     requires size { length marks.now ≡ MARK_BYTES }
@@ -91,7 +91,7 @@ fn has_mark(marks: &[u8]) -> bool
     marks.iter().any(|byte| *byte != 0)
 }
 
-/// The marks of a stored page. None at all is against the rule.
+/// The marks of a stored page. A page without a mark breaks the rule.
 #[tactic(auto, unfolding(memo_spec::specs::Reading::mask_at))]
 fn marks<'a>(cursor: &mut Cursor<'a>) -> Result<&'a [u8], ReadError>
     ensures size { IfOk result (λ marks. length marks.now ≡ MARK_BYTES) }
@@ -133,7 +133,7 @@ fn stored_page(
     Ok(PageDelta::new(alloc, slot, stored)?)
 }
 
-/// So many stored pages, whose slots ascend, and the least slot of a next one.
+/// The next `count` stored pages, whose slots ascend, and the least slot of a next one.
 pub fn stored_pages(
     alloc: Global,
     cursor: &mut Cursor,

@@ -49,7 +49,7 @@ impl<T: Drop> From<AllocFailed<T>> for WriteError {
     }
 }
 
-/// The memo of a history with this pool: the digest stands behind the rest.
+/// The memo of a history with this pool. The digest follows the rest.
 fn write_all(
     alloc: Global,
     slots: &PageMap,
@@ -69,13 +69,13 @@ fn write_all(
     Ok(out)
 }
 
-/// The memo of a history, in version 2. Its length is found before anything is written. Where the history was read from
+/// The memo of a history, in version 2. Its length is computed before anything is written. If the history was read from
 /// bytes of version 2, these are written again.
 ///
 /// # Errors
 ///
-/// `TooLong` with the memo's length exactly where that is more than a memo may have and memory is ample, else
-/// `NoMemory` where the host's memory ran out.
+/// `TooLong` with the memo's length exactly if that is more than a memo may have and memory is ample, otherwise
+/// `NoMemory` if the host's memory ran out.
 pub fn write(alloc: Global, history: &History) -> Result<Vec<u8>, WriteError>
     requires { IsEncodable history.now }
     ensures written { IfOk result (λ bytes. bytes.items ≡ memo history.now) }

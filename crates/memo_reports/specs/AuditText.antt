@@ -9,7 +9,7 @@ abbrev pub verdict_line : Option ℕ → List ℕ
 verdict_line None = codes "honest" ++ newline
 verdict_line (Some place) = line (codes "false") (decimal place)
 
--- The lines of the audit of so many records.
+-- The lines of the audit of `entries` records.
 abbrev pub audit_text : ℕ → ℕ → Option ℕ → List ℕ
 audit_text entries instructions first =
     line (codes "audit") (decimal entries) ++ line (codes "instructions") (decimal instructions) ++ verdict_line first

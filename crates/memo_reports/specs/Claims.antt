@@ -1,4 +1,4 @@
--- Records that are applied, each with the job that should make it, and what is found where these jobs are executed.
+-- Records that are applied, each with the job that should make it, and the verdict of executing these jobs.
 use Rattle.std.specs.Prelude.{◌≡◌, ℕ, zero, suc, ◌+◌, ◌*◌, ◌^◌, ◌≤◌, true, List, [], ◌∷◌, length, Option, Some, None}
 use Rattle.std.specs.Arc.{arc_value}
 use Rattle.thunk_spec.specs.Record.{Record, kept_thunk}
@@ -28,8 +28,7 @@ pub record IsClaimOf (m : Machine) (r : Record) (c : Claim) : Type 0 where
   pub told : arc_value c.rec ≡ r
   pub makes : made_by c ≡ record_of m r.thread
 
--- Claims of the first of some records, each of which can be applied where those before it were, and the machine after
--- them.
+-- Claims of the first of some records, each of which can be applied after those before it, and the machine after them.
 abbrev pub AreClaims : Machine → List Record → List Claim → Machine → Type 0
 AreClaims m rs [] after = after ≡ m
 AreClaims m [] (c ∷ cs) after = ⊥
@@ -48,13 +47,13 @@ IsFirstIn (c ∷ cs) None = IsTrueClaim c × IsFirstIn cs None
 IsFirstIn (c ∷ cs) (Some zero) = IsTrueClaim c → ⊥
 IsFirstIn (c ∷ cs) (Some (suc i)) = IsTrueClaim c × IsFirstIn cs (Some i)
 
--- What is found where the jobs of claims are executed. Each count of turns is a number of 32 bits.
+-- The verdict of executing the jobs of claims. Each count of turns is a number of 32 bits.
 pub record IsFoundIn (claims : List Claim) (v : Verdict) : Type 0 where
   pub instructions : v.instructions ≡ turns_in claims
   pub few : v.instructions ≤ length claims * 2 ^ 32
   pub first : IsFirstIn claims v.first
 
--- The first place of two: one among so many, and one among those behind them.
+-- The first place of two: one among `count` records, and one among those after them.
 abbrev pub first_of_both : Option ℕ → ℕ → Option ℕ → Option ℕ
 first_of_both (Some place) count others = Some place
 first_of_both None count (Some place) = Some (count + place)

@@ -19,7 +19,7 @@ use Rattle.report_spec.specs.Text.{newline, line, hex8}
 abbrev pub addresses_of : Setup → List ℕ
 addresses_of s = map (λ (page : Mapped). page.number * PAGE_SIZE) (map_of s)
 
--- How a thunk ended; a call is told by its number, which is in a7.
+-- How a thunk ended; a call is given by its number, which is in a7.
 abbrev pub end_text : ThunkEnd → ℕ → List ℕ
 end_text Call a7 = codes "call " ++ decimal a7
 end_text (Trap cause) a7 = codes "trap " ++ decimal (number_of cause)
@@ -29,7 +29,7 @@ end_text Fuel a7 = codes "fuel"
 abbrev pub address_text : List ℕ → ℕ → List ℕ
 address_text addresses slot = hex8 (slice_index addresses slot)
 
--- The addresses of the pages of some things, each of which has a slot, with commas between them; a dash where there is
+-- The addresses of the pages of some things, each of which has a slot, with commas between them; a dash if there is
 -- none.
 abbrev pub pages_text : {A : Type 0} → List ℕ → (A → ℕ) → List A → List ℕ
 pages_text addresses slot [] = codes "-"
@@ -56,7 +56,7 @@ entry_line addresses i r =
     ++ codes " writes " ++ writes_text addresses r.kept.delta
     ++ newline
 
--- The lines of some records, the first of which stands at place i.
+-- The lines of some records, the first of which is at place i.
 abbrev pub entry_lines : List ℕ → ℕ → List Record → List ℕ
 entry_lines addresses i [] = []
 entry_lines addresses i (r ∷ rs) = entry_line addresses i r ++ entry_lines addresses (suc i) rs

@@ -8,7 +8,7 @@ use Rattle.memo_reports.specs.declared.races.past.Access.{Access}
 use Rattle.memo_reports.specs.declared.races.past.ThreadPast.{ThreadPast}
 use Rattle.memo_reports.specs.declared.races.past.PagePast.{PagePast}
 
--- Whether an access races with one of a later step, by whether that one writes.
+-- Whether an access races with one of a later step, by whether the later one writes.
 abbrev pub races_with : Step → Bool → Access → Bool
 races_with s writes a =
     not (a.thread == s.thread) && ((writes || a.writes) && not (nat_lt a.number (slice_index s.seen a.thread)))

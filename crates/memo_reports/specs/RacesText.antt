@@ -7,7 +7,7 @@ use Rattle.memo_reports.specs.Listing.{addresses_of, address_text}
 use Rattle.round_spec.specs.declared.Race.{Race}
 use Rattle.round_spec.specs.Races.{races_of}
 
--- The letter of a step by whether it writes the page: w where it does, and else r.
+-- The letter of a step by whether it writes the page: w if it does, and otherwise r.
 abbrev pub access_text : Bool → List ℕ
 access_text writes = if writes then codes "w" else codes "r"
 

@@ -6,7 +6,7 @@ use Rattle.memo_reports.specs.declared.races.touches.Touch.{Touch}
 use Rattle.memo_reports.specs.declared.races.past.Access.{Access}
 use Rattle.memo_reports.specs.declared.races.rows.FirstRaces.{FirstRaces}
 
--- The race of an access with the step at a later place, for a page that this one touches.
+-- The race of an access with the step at a later place, for a page that the later one touches.
 abbrev pub race_with : ℕ → Touch → Access → Race
 race_with j t a =
     record { earlier = a.place; later = j; slot = t.slot; earlier_writes = a.writes; later_writes = t.writes }
@@ -15,6 +15,6 @@ race_with j t a =
 abbrev pub races_in : ℕ → ℕ → Touch → List Access → List Race
 races_in i j t accesses = map (race_with j t) (filter (λ (a : Access). a.place == i) accesses)
 
--- It is known how many races the rows have.
+-- `many` is the number of races of the rows.
 abbrev pub IsCounted : FirstRaces → Type 0
 IsCounted f = f.many ≡ length (flat_map (λ (row : List Race). row) f.rows.items)

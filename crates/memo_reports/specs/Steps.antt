@@ -1,4 +1,4 @@
--- What of each step decides whether it races.
+-- The part of each step that decides whether it races.
 use Rattle.std.specs.Prelude.{◌≡◌, ◌<◌, ℕ, List, length, slice_index, slice_index_or}
 use Rattle.guest_call.specs.declared.thread_number.TheConstants.{THREADS}
 use Rattle.history_spec.specs.Facts.{Fact}
@@ -9,7 +9,7 @@ use Rattle.round_spec.specs.Sync.{seen_at}
 use Rattle.memo_reports.specs.declared.races.steps.Step.{Step}
 use Rattle.memo_reports.specs.Touches.{touches_in}
 
--- What of the step at place j decides whether it races.
+-- The part of the step at place j that decides whether it races.
 pub record IsStep (fs : List Fact) (reads : List (List ℕ)) (pages j : ℕ) (s : Step) : Type 0 where
   pub thread : s.thread ≡ (fact_at fs j).thread
   pub known : s.thread < THREADS
@@ -17,7 +17,7 @@ pub record IsStep (fs : List Fact) (reads : List (List ℕ)) (pages j : ℕ) (s 
   pub seen : (t : ℕ) → t < THREADS → slice_index s.seen t ≡ seen_at fs j t
   pub touches : s.touches.items ≡ touches_in pages (read_at reads j) (fact_at fs j).written
 
--- The same of each of some steps.
+-- The same for each of some steps.
 pub record AreSteps (fs : List Fact) (reads : List (List ℕ)) (pages : ℕ) (steps : List Step) : Type 0 where
   pub many : length steps ≡ length fs
   pub each : (j : ℕ) (s : Step) → j < length fs → IsStep fs reads pages j (slice_index_or steps j s)

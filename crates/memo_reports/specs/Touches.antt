@@ -9,7 +9,7 @@ abbrev pub ascends : ℕ → List ℕ → Bool
 ascends low [] = true
 ascends low (p ∷ ps) = nat_le low p && ascends (suc p) ps
 
--- A page that is touched, by what is written.
+-- A touched page, and whether it is written.
 abbrev pub touch_in : List ℕ → ℕ → Touch
 touch_in written p = record { slot = p; writes = is_in p written }
 

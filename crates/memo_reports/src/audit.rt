@@ -1,5 +1,5 @@
-//! The audit of a history: whether its records are those that the machine makes from scratch, and which is the first
-//! that isn't. Its records are applied one after the other, and their thunks are executed again, side by side.
+//! The audit of a history: whether its records are those that the machine makes from scratch, and the first one that
+//! isn't. Its records are applied one after the other, and their thunks are executed again, side by side.
 
 mod auditing;
 mod claims;

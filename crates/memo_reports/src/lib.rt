@@ -1,4 +1,4 @@
-//! What lines print that read a memo: the listing of what it keeps, its audit, and its races.
+//! What the commands that read a memo print: the listing of what it keeps, its audit, and its races.
 #![tactic(auto)]
 
 pub mod audit;

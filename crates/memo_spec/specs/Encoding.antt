@@ -78,11 +78,11 @@ registers r = flat_map word (r.pc ∷ drop 1 r.x)
 abbrev pub page_number : List Mapped → ℕ → ℕ
 page_number map slot = (slice_index_or map slot unmapped).number
 
--- Where a page stands in the pool.
+-- The place of a page in the pool.
 abbrev pub index_in : List (List ℕ) → List ℕ → ℕ
 index_in pool page = position_or_len (bytes_eq page) pool
 
--- A read page: its number, and where its bytes stand in the pool.
+-- A read page: its number, and the place of its bytes in the pool.
 abbrev pub read_page : List Mapped → List (List ℕ) → ReadPage → List ℕ
 read_page map pool p = word (page_number map p.slot) ++ word (index_in pool p.bytes)
 
@@ -130,7 +130,7 @@ memo h = memo_in Version2 h
 abbrev pub AreBytes : List ℕ → Type 0
 AreBytes bytes = AllByRecursion (λ b. b < 256) bytes
 
--- Registers: words, the first of which is 0.
+-- Registers: the pc and 32 registers, all words, of which x0 is 0.
 pub record AreRegisters (r : Registers) : Type 0 where
   pub pc : r.pc < 2 ^ 32
   pub count : length r.x ≡ 32
@@ -149,7 +149,8 @@ pub record IsReadPage (map : List Mapped) (p : ReadPage) : Type 0 where
   pub size : length p.bytes ≡ PAGE_SIZE
   pub bytes : AreBytes p.bytes
 
--- A stored page lies in the map, and has as many bytes as marks, at least one.
+-- A stored page lies in the map, and has a mark for each place, at least one of them set, and a byte for each that is
+-- set.
 pub record IsStoredPage (map : List Mapped) (d : PageDelta) : Type 0 where
   pub mapped : d.slot < length map
   pub places : length d.mask ≡ PAGE_SIZE
@@ -157,7 +158,8 @@ pub record IsStoredPage (map : List Mapped) (d : PageDelta) : Type 0 where
   pub count : length d.bytes ≡ count_by (λ mark. mark) d.mask
   pub bytes : AreBytes d.bytes
 
--- A record of a memo.
+-- A record that has an encoding: its thread and end are in range, its turns are 1 to the fuel, its registers are words,
+-- and its read pages and its stored pages ascend and lie in the map.
 pub record IsRecord (map : List Mapped) (fuel : ℕ) (r : Record) : Type 0 where
   pub thread : r.thread < THREADS
   pub end : IsEnd r.kept.end
@@ -170,8 +172,8 @@ pub record IsRecord (map : List Mapped) (fuel : ℕ) (r : Record) : Type 0 where
   pub delta_ascends : deltas_ascend 0 r.kept.delta ≡ true
   pub delta : AllByRecursion (IsStoredPage map) r.kept.delta
 
--- A history that has an encoding: its setup may be run, it has records but no more than the limit, and these are
--- numbered.
+-- A history that has an encoding: its setup may be run and is of bytes, it has records but no more than the limit, and
+-- these are numbered and have encodings.
 pub record IsEncodable (h : History) : Type 0 where
   pub setup : IsSetup h.setup
   pub elf_bytes : AreBytes h.setup.elf

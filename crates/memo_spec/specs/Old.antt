@@ -40,19 +40,19 @@ abbrev pub first_there : Option ℕ → Option ℕ → Option ℕ
 first_there (Some a) other = Some a
 first_there None other = other
 
--- The byte that a record tells of an address, as its thunk left it: one that was stored, or else one that was read.
+-- The byte that a record has of an address, as it was after its thunk: one that was stored, or else one that was read.
 abbrev pub told_byte : List Mapped → Kept → ℕ → Option ℕ
 told_byte map kept address =
     first_there
     (stored_byte kept.delta (slot_of map address) (address % PAGE_SIZE))
     (read_byte kept.reads (slot_of map address) (address % PAGE_SIZE))
 
--- The word of four bytes, the lowest first, where all are there.
+-- The word of four bytes, the lowest first, if all are there.
 abbrev pub whole_word : Option ℕ → Option ℕ → Option ℕ → Option ℕ → Option ℕ
 whole_word (Some a) (Some b) (Some c) (Some d) = Some (a + b * 2 ^ 8 + c * 2 ^ 16 + d * 2 ^ 24)
 whole_word _ _ _ _ = None
 
--- The word that a record tells of an address, where it tells each of its bytes.
+-- The word that a record has of an address, if it has each of its bytes.
 abbrev pub told_word : List Mapped → Kept → ℕ → Option ℕ
 told_word map kept address =
     whole_word (told_byte map kept address) (told_byte map kept (address + 1)) (told_byte map kept (address + 2))
@@ -68,11 +68,11 @@ abbrev pub tells_m : Option ℕ → Bool
 tells_m None = false
 tells_m (Some w) = is_of_m w
 
--- Whether a record ended by an illegal instruction where it tells one of M.
+-- Whether a record ended by an illegal instruction, and the word that it has there is one of M.
 abbrev pub ends_at_m : List Mapped → Record → Bool
 ends_at_m map r = is_illegal r.kept.end && tells_m (told_word map r.kept r.kept.finish.pc)
 
--- Whether the last of some records is such a one.
+-- Whether the last of some records is such a record.
 abbrev pub last_ends_at_m : List Mapped → List Record → Bool
 last_ends_at_m map [] = false
 last_ends_at_m map (r ∷ []) = ends_at_m map r
@@ -88,17 +88,17 @@ abbrev pub ends_at_lock : Record → Bool
 ends_at_lock r =
     is_call r.kept.end && nat_le 18 (register r.kept.finish 17) && nat_le (register r.kept.finish 17) 21
 
--- Whether the last of some records is such a one.
+-- Whether the last of some records is such a record.
 abbrev pub last_ends_at_lock : List Record → Bool
 last_ends_at_lock [] = false
 last_ends_at_lock (r ∷ []) = ends_at_lock r
 last_ends_at_lock (r ∷ q ∷ rs) = last_ends_at_lock (q ∷ rs)
 
--- Whether a history comes from before M: its last record ended by an illegal instruction that is one of M now.
+-- Whether a history is from before M: its last record ended by an illegal instruction that is one of M now.
 unfoldable pub is_before_m : History → Bool
 is_before_m h = last_ends_at_m (map_of h.setup) h.records
 
--- Whether a history of version 1 may come from before reader-writer locks: its last record ended by a call of one.
+-- Whether a history of version 1 may be from before reader-writer locks: its last record ended by a call of one.
 unfoldable pub is_before_locks : History → Bool
 is_before_locks h = last_ends_at_lock h.records
 

@@ -1,4 +1,4 @@
--- Readers of fields: each gives what it read and the place behind it, or a refusal.
+-- Readers of fields: each returns what it read and the place behind it, or a refusal.
 use Rattle.std.specs.Prelude.{ℕ, ◌+◌, zero, suc, Bool, nat_lt, if◌then◌else◌, List, [], ◌∷◌, length, take, drop, Result, Ok, Err}
 use Rattle.std.specs.Int.{Width, byte_len, from_le_bytes}
 use Rattle.ith_text.specs.Place.{Place}
@@ -37,7 +37,7 @@ number_at w = λ p.
     if nat_lt (length p.left) (byte_len w) then Err (Field p.taken)
     else Ok (from_le_bytes w p.left, past (byte_len w) p)
 
--- A refusal at a place where a test fails.
+-- This value, or the refusal if a test fails.
 abbrev pub tested : {A : Type 0} → Bool → Refusal → A → Place → Result (A × Place) Refusal
 tested holds refusal a p = if holds then Ok (a, p) else Err refusal
 
@@ -57,7 +57,7 @@ each (suc n) read = do
   others ← each n read
   done (first ∷ others)
 
--- So many, one after the other, where each is read in a state that the one before it leaves; and the last state.
+-- So many, one after the other, each read in the state that the one before it returned; and the last state.
 abbrev pub chain : {S A : Type 0} → (S → Reader (A × S)) → ℕ → S → Reader (List A × S)
 chain step zero s = done ([], s)
 chain step (suc n) s = do

@@ -57,7 +57,7 @@ registers_at = do
 abbrev pub slot_of_number : List Mapped → ℕ → ℕ
 slot_of_number pages number = position_or_len (λ (m : Mapped). m.number == number) pages
 
--- A page number, mapped, and from a slot on.
+-- The slot of a page number, which is mapped and whose slot is not below this one.
 unfoldable pub slot_at : List Mapped → ℕ → Reader ℕ
 slot_at pages low = do
   number ←
@@ -69,8 +69,8 @@ slot_at pages low = do
 abbrev pub used_after : ℕ → ℕ → ℕ
 used_after used index = if index == used then used + 1 else used
 
--- Where the read pages of a record are read: the slot that the next may have at the least, and how many pages of the
--- pool are used.
+-- The state in which the read pages of a record are read: the least slot that the next one may have, and how many pages
+-- of the pool are used.
 pub record ReadState : Type 0 where
   pub low : ℕ
   pub used : ℕ
@@ -104,7 +104,7 @@ stored_page_at pages low = do
   bytes ← bytes_at (count_by (λ mark. mark) mask)
   done (record { slot = slot; mask = mask; bytes = bytes }, suc slot)
 
--- Where a record is read: the threads of those before it, and how many pages of the pool are used.
+-- The state in which a record is read: the threads of those before it, and how many pages of the pool are used.
 pub record RecordState : Type 0 where
   pub earlier : List ℕ
   pub used : ℕ
@@ -173,12 +173,12 @@ behind_version Version2 = do
   _ ← ruled (number_at w32) (λ n. n == profile)
   history_at
 
--- The first record, counted from a number on, that doesn't fit, or the number past the last where no end comes.
+-- The first record, counted from a number on, that doesn't fit, or the number past the last if no end comes.
 abbrev pub incoherent_from : ℕ → Machine → List Record → Option ℕ
 incoherent_from i m [] = if is_some m.ending then None else Some i
 incoherent_from i m (r ∷ rs) = if is_none m.ending && fits m r then incoherent_from (i + 1) (apply m r) rs else Some i
 
--- A history that holds together, or the refusal.
+-- A history that is coherent, or the refusal.
 abbrev pub coherent_or : Option ℕ → History → Result History Refusal
 coherent_or None h = Ok h
 coherent_or (Some i) h = Err (Incoherent i)
@@ -188,13 +188,13 @@ abbrev pub is_old_in : Format → History → Bool
 is_old_in Version1 h = is_old h
 is_old_in Version2 h = false
 
--- A history that isn't old in a format, where it holds together.
+-- A history, if it isn't old in a format and is coherent, or the refusal.
 abbrev pub todays : Format → History → Result History Refusal
 todays format h =
     if is_old_in format h then Err (Old (last_number h))
     else coherent_or (incoherent_from 0 (first h.setup) h.records) h
 
--- A history that was read to the last byte, where it is of today and holds together.
+-- A history that was read to the last byte, if it isn't old and is coherent, or the refusal.
 abbrev pub ended : Format → Result (History × Place) Refusal → Result History Refusal
 ended format (Ok x) = if length x.1.left == 0 then todays format x.0 else Err (Field x.1.taken)
 ended format (Err refusal) = Err refusal
@@ -211,7 +211,7 @@ version_of bytes = from_le_bytes w32 (drop 4 bytes)
 abbrev pub format_of : ℕ → Option Format
 format_of version = if version == 1 then Some Version1 else if version == 2 then Some Version2 else None
 
--- What bytes of a format are taken as, where the last 32 are the digest of those before.
+-- What bytes of a format are taken as, if the last 32 are the digest of those before.
 abbrev pub reading_in : Option Format → List ℕ → Result History Refusal
 reading_in None bytes = Err (Version (version_of bytes))
 reading_in (Some format) bytes =
@@ -225,7 +225,7 @@ reading bytes =
     else if not (bytes_eq (take 4 bytes) magic) then Err Magic
     else reading_in (format_of (version_of bytes)) bytes
 
--- Bytes that are to be taken as a history: they encode it, it isn't old in their format, and it holds together.
+-- Bytes that are to be taken as a history: they encode it, it isn't old in their format, and it is coherent.
 pub record IsTaken (bytes : List ℕ) (h : History) : Type 0 where
   pub format : Format
   pub encodes : EncodesIn format bytes h

@@ -1,4 +1,4 @@
-//! The memo file: what its bytes encode, and which refusal bytes get that are taken for none.
+//! The memo file: what its bytes encode, and how bytes are refused that aren't taken as one.
 #![tactic(auto)]
 
 ghost use Rattle.std.specs.Prelude.{◌≡◌, ℕ, List, Ok};
@@ -53,7 +53,7 @@ pub enum Refusal {
     /// In a file of version 1 this record, the last, ended by an illegal instruction that is one of the standard
     /// extension M, or by a call of a reader-writer lock: the memo is from before M, or from before these calls.
     Old(u32),
-    /// This record doesn't fit what those before it leave, or no end comes.
+    /// This record doesn't fit the machine after those before it, or no end comes.
     Incoherent(u32),
 }
 
@@ -62,7 +62,7 @@ pub fn bytes_encode_one_history()
     ensures { (bytes : List ℕ) (a b : History) → Encodes bytes a → Encodes bytes b → a ≡ b }
 {}
 
-/// In each version a history has one encoding, if it can be encoded, and else none.
+/// In each version a history that can be encoded has one encoding.
 pub fn history_has_one_encoding()
     ensures one { (format : Format) (a b : List ℕ) (h : History) → EncodesIn format a h
         → EncodesIn format b h → a ≡ b }
@@ -70,12 +70,12 @@ pub fn history_has_one_encoding()
         → EncodesIn format (memo_in format h) h }
 {}
 
-/// Bytes are taken as a history that they encode and that holds together, and in version 1 isn't old.
+/// Bytes are taken as a history that they encode, if it is coherent and, in version 1, not old.
 pub fn encoded_is_taken()
     ensures { (bytes : List ℕ) (h : History) → IsTaken bytes h → reading bytes ≡ Ok h }
 {}
 
-/// What bytes are taken as they encode, and it holds together, and in version 1 isn't old.
+/// A history that bytes are taken as is one that they encode; it is coherent and, in version 1, not old.
 pub fn taken_is_encoded(bytes: &[u8])
     ensures { (h : History) → reading bytes.now ≡ Ok h → IsTaken bytes.now h }
 {}

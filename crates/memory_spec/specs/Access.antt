@@ -11,7 +11,7 @@ byte_count One = 1
 byte_count Two = 2
 byte_count Four = 4
 
--- The number that stands in a page from an offset on, least byte first. (RISC-V unprivileged ISA 20191213, 2.6)
+-- The number in a page from an offset on, least byte first. (RISC-V unprivileged ISA 20191213, 2.6)
 unfoldable pub number_in : List ℕ → ℕ → Size → ℕ
 number_in page offset One = slice_index_or page offset 0
 number_in page offset Two = slice_index_or page offset 0 + slice_index_or page (offset + 1) 0 * 2 ^ 8
@@ -35,12 +35,12 @@ bytes_stored address Four value =
 unfoldable pub number_at : List Mapped → Memory → ℕ → Size → ℕ
 number_at map memory address size = number_in (page_of memory (slot_of map address)) (address % 4096) size
 
--- What a load finds, or none where its page doesn't permit it. (RISC-V unprivileged ISA 20191213, 2.6)
+-- The number that a load finds, or none if its page doesn't permit it. (RISC-V unprivileged ISA 20191213, 2.6)
 unfoldable pub loaded : List Mapped → Memory → ℕ → Size → Option ℕ
 loaded map memory address size =
     if allows read_right (permission_at map address) then Some (number_at map memory address size) else None
 
--- The word that a fetch finds, or none where its page doesn't permit it. (RISC-V unprivileged ISA 20191213, 1.5)
+-- The word that a fetch finds, or none if its page doesn't permit it. (RISC-V unprivileged ISA 20191213, 1.5)
 unfoldable pub fetched : List Mapped → Memory → ℕ → Option ℕ
 fetched map memory address =
     if allows execute_right (permission_at map address) then Some (number_at map memory address Four) else None

@@ -30,12 +30,12 @@ AreAddressable map = All (λ page. page.number < PAGE_NUMBERS) map
 abbrev pub Memory : Type 0
 Memory = List (List ℕ)
 
--- The slot of an address: the place in the map of the page that has it, or the map's length where none has.
+-- The slot of an address: the place in the map of the page that has it, or the map's length if none has.
 abbrev pub slot_of : List Mapped → ℕ → ℕ
 slot_of [] address = 0
 slot_of (page ∷ pages) address = if page.number == address / 4096 then 0 else suc (slot_of pages address)
 
--- What stands for the page of an address that isn't mapped: it permits nothing.
+-- The stand-in for the page of an address that isn't mapped: it permits nothing.
 abbrev pub unmapped : Mapped
 unmapped = record { number = 0; permission = 0 }
 
@@ -56,7 +56,7 @@ on_each a (page ∷ pages) = a ∷ on_each a pages
 unfoldable pub zero_page : List ℕ
 zero_page = replicate 4096 0
 
--- The pages of a map stand in ascending order, each once.
+-- The pages of a map are in ascending order, each once, and above a number.
 abbrev pub ascends_above : ℕ → List Mapped → Bool
 ascends_above low [] = true
 ascends_above low (page ∷ pages) = nat_lt low page.number && ascends_above page.number pages

@@ -1,5 +1,5 @@
--- What the memory that a thread works on means to the layers above: the view that it was given, the
--- view with the thread's own stores laid over it, which bytes were stored, and from which pages a byte was taken.
+-- What the memory that a thread works on means to the layers above: the view that it was given, the view with the
+-- thread's own stores applied, which bytes were stored, and from which pages a byte was taken.
 use Rattle.std.specs.Prelude.{◌≡◌, ◌⊎◌, ℕ, ◌%◌, Bool, true, false, List, [], ◌∷◌, Option, Some, None, Result, Ok, Err, replicate, slice_index_or, slice_set}
 use Rattle.memory_spec.specs.declared.Size.{Size}
 use Rattle.memory_spec.specs.declared.MemoryError.{MemoryError}
@@ -56,19 +56,19 @@ after_taking w addresses = record w { taken = taken_at w.map w.taken addresses }
 abbrev pub after_storing : Workspace → List StoredByte → Workspace
 after_storing w stores = record w { memory = laid w.map w.memory stores; stored = marked w.map w.stored stores }
 
--- Nothing changed but that the page of this address may have been taken from.
+-- Nothing changed, except that a byte of the page of this address may have been taken.
 abbrev pub TookAtMost : ℕ → Workspace → Workspace → Type 0
 TookAtMost address before after = (after ≡ before) ⊎ (after ≡ after_taking before (address ∷ []))
 
--- How a fetch or a load at an address ends, where `found` is what it finds: its value, and its page is taken;
--- or no access, where nothing is found, and nothing changed; or the host's memory ran out, and nothing changed.
+-- How a fetch or a load at an address ends, where `found` is what it finds: its value, and a byte of its page is taken;
+-- or no access, if nothing is found, and nothing changed; or the host's memory ran out, and nothing changed.
 abbrev pub Takes : Workspace → ℕ → Option ℕ → Result ℕ MemoryError → Workspace → Type 0
 Takes before address found (Ok value) after = (found ≡ Some value) × (after ≡ after_taking before (address ∷ []))
 Takes before address found (Err Access) after = (found ≡ None) × (after ≡ before)
 Takes before address found (Err NoMemory) after = after ≡ before
 
--- How a store ends: its bytes are stored; or no access, where the page doesn't permit it, and nothing changed;
--- or the host's memory ran out, and nothing changed.
+-- How a store ends: its bytes are stored; or no access, if the page doesn't permit it, and nothing changed; or the
+-- host's memory ran out, and nothing changed.
 abbrev pub Stores : Workspace → ℕ → Size → ℕ → Result Unit MemoryError → Workspace → Type 0
 Stores before address size value (Ok done) after =
     (may_store before.map address ≡ true) × (after ≡ after_storing before (bytes_stored address size value))

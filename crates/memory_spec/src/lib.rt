@@ -24,7 +24,7 @@ pub enum Size {
     Four,
 }
 
-/// Why a fetch, a load or a store gave nothing.
+/// Why a fetch, a load or a store failed.
 #[derive(Clone, Copy, PartialEq, Eq)]
 pub enum MemoryError {
     /// The page isn't mapped, or it lacks the permission.
@@ -33,7 +33,7 @@ pub enum MemoryError {
     NoMemory,
 }
 
-/// A memory of a map is one after any stores: as many pages, each of 4,096 bytes.
+/// A memory of a map is still one after any stores: as many pages, each of 4,096 bytes.
 pub fn stores_keep_the_shape()
     ensures { (map : List Mapped) (memory : Memory) (stores : List StoredByte)
         → IsMemory map memory

@@ -1,4 +1,4 @@
-//! A commit writes the marked bytes, and leaves what was shared before.
+//! A commit writes the marked bytes, and doesn't change what was shared before.
 
 use page_store::{Delta, PAGE_SIZE, Page, PageDelta, PageTable, StoredPage, *};
 use std::alloc::{AllocError, Global};
@@ -25,7 +25,8 @@ fn a_snapshot_keeps_what_it_has(rt: HostRuntime) -> Result<(), AllocError> {
     Ok(())
 }
 
-/// What a thread leaves that stored a byte to each of these places of a page in slot 0, which it viewed so.
+/// The delta of a thread that stored a byte at each of these places of the page in slot 0, which it viewed as this
+/// page.
 fn delta_of(alloc: Global, viewed: &Page, byte: u8, places: &[usize]) -> Result<Delta, AllocError> {
     let mut stored = StoredPage::of(viewed);
     for place in places.iter() {
@@ -46,7 +47,8 @@ fn commits_to_one_page_come_together(rt: HostRuntime) -> Result<(), AllocError> 
     let viewed = Page::new([5; PAGE_SIZE]);
     let mut table = PageTable::empty(rt.alloc());
     table.push(viewed.copy())?;
-    // The first finds the page as it was viewed, the second one that another changed: the places that it stored to win.
+    // The first finds the page as it was viewed, the second one a page that another changed: the places that it stored
+    // to win.
     commit(&mut table, &delta_of(rt.alloc(), &viewed, 1, &[0, 7])?)?;
     let between = table.snapshot()?;
     commit(&mut table, &delta_of(rt.alloc(), &viewed, 2, &[7, 8])?)?;

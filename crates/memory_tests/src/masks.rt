@@ -66,8 +66,8 @@ fn words_have_the_first_place_lowest(rt: HostRuntime) {
     assert!(rt; mask.word(63) == 0x8000_0000_0000_0000);
 }
 
-/// Whether one's own copy of a page of ones, with twos at two places, is the page: `theirs` is what another thread
-/// stored at a place of the page meanwhile.
+/// Whether a thread's own copy of a page of ones, with twos at two places, is the page after its commit: `theirs` is
+/// what another thread stored at a place of the page meanwhile.
 fn is_own_copy(place: usize, theirs: u8) -> bool {
     let mut mask = Mask::new();
     mask.set(2);

@@ -1,4 +1,4 @@
--- Objects where nobody waits.
+-- Objects where no thread waits.
 use Rattle.std.specs.Prelude.{ℕ, ◌≡◌}
 use Rattle.guest_call.specs.Objects.{Objects, waits_at, IsKept}
 

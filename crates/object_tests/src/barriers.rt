@@ -38,14 +38,14 @@ fn calls_answer_as_worked_out(rt: HostRuntime) -> Result<(), AllocError> {
         negated(22),
         &[],
     );
-    // the last of three lets the others go, who are answered 0 in the order in which they came
+    // the last of three wakes the others, which are answered 0 in the order in which they came
     assert_returns(&rt, crowd.act(&rt, 26, Call::BarrierInit(0, 3)), 0, &[]);
     assert_blocks(&rt, crowd.act(&rt, 25, Call::BarrierWait(0)));
     assert_blocks(&rt, crowd.act(&rt, 24, Call::BarrierWait(0)));
     assert_returns(&rt, crowd.act(&rt, 23, Call::BarrierWait(0)), 1, &[25, 24]);
     assert_blocks(&rt, crowd.act(&rt, 22, Call::BarrierWait(0)));
     assert_blocks(&rt, crowd.act(&rt, 21, Call::BarrierWait(0)));
-    // somebody waits: EBUSY is 16
+    // threads wait: EBUSY is 16
     assert_returns(
         &rt,
         crowd.act(&rt, 20, Call::BarrierInit(0, 3)),
@@ -53,7 +53,7 @@ fn calls_answer_as_worked_out(rt: HostRuntime) -> Result<(), AllocError> {
         &[],
     );
     assert_returns(&rt, crowd.act(&rt, 19, Call::BarrierWait(0)), 1, &[22, 21]);
-    // a count of one lets each go at once, and 32 is the largest
+    // with a count of one no thread waits, and 32 is the largest count
     assert_returns(&rt, crowd.act(&rt, 18, Call::BarrierInit(0, 1)), 0, &[]);
     assert_returns(&rt, crowd.act(&rt, 17, Call::BarrierWait(0)), 1, &[]);
     assert_returns(&rt, crowd.act(&rt, 16, Call::BarrierInit(63, 32)), 0, &[]);

@@ -21,7 +21,7 @@ pub(super) struct Crowd {
     ghost idle: { (u : ℕ) → slice_index_or waiting u true ≡ false → waits_at objects u ≡ 0 },
 }
 
-/// Makes a thread at objects where nobody waits, and gives its number.
+/// Creates a thread at objects where no thread waits, and returns its number.
 fn make_thread(rt: &impl Abort, objects: &mut Objects) -> u32
     requires { AreIdle objects.old }
     ensures { AreIdle objects.new }
@@ -45,7 +45,7 @@ fn is_wait(fate: Fate) -> bool
     }
 }
 
-/// These threads were woken, and wait no longer.
+/// Notes that these threads were woken, and wait no longer.
 fn wake(waiting: &mut [bool; THREADS], woken: &Queue)
     ensures { (u : ℕ) → slice_index_or waiting.new u true
         ≡ (slice_index_or waiting.old u true && not (list_any (λ w. w == u) woken.now)) }
@@ -70,7 +70,7 @@ impl Crowd {
         })
     }
 
-    /// What the call of a thread does, which doesn't wait.
+    /// The effect of a call of a thread that doesn't wait.
     pub(super) fn act(&mut self, rt: &impl Abort, number: u8, call: Call) -> Effect
         requires { is_put call ≡ false }
     {
@@ -99,14 +99,14 @@ fn are_threads(queue: &Queue, numbers: &[u8]) -> bool {
             .all(|(t, number)| t.number() == *number)
 }
 
-/// The caller returns this answer, and these threads are woken.
+/// Asserts that the caller returns this answer, and that these threads are woken.
 pub(super) fn assert_returns(rt: &impl Abort, effect: Effect, answer: u32, woken: &[u8]) {
     assert!(rt; effect.fate() == Fate::Returns(answer, None));
     assert!(rt; effect.told().is_none());
     assert!(rt; are_threads(effect.woken(), woken));
 }
 
-/// The caller waits, and nobody is woken.
+/// Asserts that the caller waits, and that no thread is woken.
 pub(super) fn assert_blocks(rt: &impl Abort, effect: Effect) {
     assert!(rt; effect.fate() == Fate::Blocks);
     assert!(rt; effect.woken().is_empty());

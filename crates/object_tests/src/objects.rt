@@ -8,7 +8,7 @@ use guest_call::{Call, Fate, Object};
 use std::alloc::{AllocError, Global};
 use sync_objects::{ActedOn, Effect, Objects};
 
-/// What a call does that thread 0 makes at the start.
+/// The effect of a call that thread 0 makes at the start.
 fn first(alloc: Global, call: Call) -> Result<Effect, AllocError>
     requires { is_put call ≡ false }
 {

@@ -9,7 +9,7 @@ fn readers_and_writers_take_turns(rt: HostRuntime) -> Result<(), AllocError> {
     let mut crowd = Crowd::new(&rt, rt.alloc())?;
     assert_returns(&rt, crowd.act(&rt, 1, Call::RdLock(0)), 0, &[]);
     assert_returns(&rt, crowd.act(&rt, 2, Call::RdLock(0)), 0, &[]);
-    // a writer waits, and a reader behind it: the last of those who read lets the writer in alone
+    // a writer waits, and a reader after it: the unlock of the last reader admits the writer alone
     assert_blocks(&rt, crowd.act(&rt, 3, Call::WrLock(0)));
     assert_blocks(&rt, crowd.act(&rt, 4, Call::RdLock(0)));
     assert_returns(&rt, crowd.act(&rt, 1, Call::RwUnlock(0)), 0, &[]);
@@ -17,7 +17,7 @@ fn readers_and_writers_take_turns(rt: HostRuntime) -> Result<(), AllocError> {
     // EBUSY is 16
     assert_returns(&rt, crowd.act(&rt, 1, Call::TryWrLock(0)), negated(16), &[]);
     assert_returns(&rt, crowd.act(&rt, 3, Call::RwUnlock(0)), 0, &[4]);
-    // one read lock for each thread: EAGAIN is 11, EDEADLK 35; and who doesn't hold it can't let go: EPERM is 1
+    // one read lock for each thread: EAGAIN is 11, EDEADLK 35; no thread can unlock a lock that it lacks: EPERM is 1
     assert_returns(&rt, crowd.act(&rt, 4, Call::RdLock(0)), negated(11), &[]);
     assert_returns(&rt, crowd.act(&rt, 4, Call::WrLock(0)), negated(35), &[]);
     assert_returns(&rt, crowd.act(&rt, 1, Call::RwUnlock(0)), negated(1), &[]);
@@ -47,7 +47,7 @@ fn a_writer_lets_all_readers_in(rt: HostRuntime) -> Result<(), AllocError> {
         negated(16),
         &[],
     );
-    // three come to read, then one to write, then one more to read: those before the writer are let in
+    // three come to read, then one to write, then one more to read: those before the writer are admitted
     assert_blocks(&rt, crowd.act(&rt, 3, Call::RdLock(63)));
     assert_blocks(&rt, crowd.act(&rt, 1, Call::RdLock(63)));
     assert_blocks(&rt, crowd.act(&rt, 2, Call::RdLock(63)));

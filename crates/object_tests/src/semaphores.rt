@@ -39,7 +39,7 @@ fn calls_answer_as_worked_out(rt: HostRuntime) -> Result<(), AllocError> {
     assert_returns(&rt, crowd.act(&rt, 24, Call::SemTryWait(63)), 0, &[]);
     assert_returns(&rt, crowd.act(&rt, 23, Call::SemPost(63)), 0, &[]);
     assert_returns(&rt, crowd.act(&rt, 22, Call::SemPost(63)), negated(75), &[]);
-    // threads 21 and 20 wait, in this order: EBUSY is 16, EAGAIN is 11, and posts leave the value 0
+    // threads 21 and 20 wait, in this order: EBUSY is 16, EAGAIN is 11, and posts keep the value 0
     assert_blocks(&rt, crowd.act(&rt, 21, Call::SemWait(0)));
     assert_blocks(&rt, crowd.act(&rt, 20, Call::SemWait(0)));
     assert_returns(
@@ -62,7 +62,7 @@ fn calls_answer_as_worked_out(rt: HostRuntime) -> Result<(), AllocError> {
         negated(11),
         &[],
     );
-    // nobody waits: a post counts
+    // no thread waits: a post counts
     assert_returns(&rt, crowd.act(&rt, 14, Call::SemPost(0)), 0, &[]);
     assert_returns(&rt, crowd.act(&rt, 13, Call::SemWait(0)), 0, &[]);
     assert_blocks(&rt, crowd.act(&rt, 12, Call::SemWait(0)));

@@ -8,7 +8,7 @@ use Rattle.page_store.specs.MapTables.{IsTable}
 abbrev pub pages_of : Inside → List Mapped
 pages_of map = map.pages.items
 
--- The pages of a map ascend, and its table is one of theirs.
+-- The pages of a map ascend, and its table is a table of these pages.
 pub record IsMap (map : Inside) : Type 0 where
   pub ascends : ascends_above 0 (pages_of map) ≡ true
   pub table : IsTable (pages_of map) map.table.starts map.table.places.items map.table.used

@@ -14,6 +14,6 @@ groups_on shelf = map arc_value shelf.groups.items
 abbrev pub pages_on : Inside → Memory
 pages_on shelf = joined (groups_on shelf)
 
--- Its pages stand in full groups but for the last.
+-- A shelf's pages are in groups that are all full except the last.
 abbrev pub IsShelf : Inside → Type 0
 IsShelf shelf = AreGroupsOf GROUP_SIZE (length (pages_on shelf)) (groups_on shelf)

@@ -15,7 +15,7 @@ shelves_of table = map arc_value table.shelves.items
 abbrev pub pages_of : Inside → Memory
 pages_of table = joined (shelves_of table)
 
--- A table counts its pages, which stand on its shelves, and each has 4,096 bytes.
+-- A table counts the pages on its shelves, and each page has 4,096 bytes.
 pub record IsTable (table : Inside) : Type 0 where
   pub shelved : AreGroupsOf SHELF_SIZE table.count (shelves_of table)
   pub pages : All (λ page. length page ≡ PAGE_SIZE) (pages_of table)

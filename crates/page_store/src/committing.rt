@@ -10,14 +10,13 @@ use super::page::Page;
 use super::table::PageTable;
 use std::alloc::AllocError;
 
-/// A table of pages with the stored bytes of a thunk: exactly the bytes at the marked places are other
-/// ones; a slot past the table's end has no page, and nothing is written there. Pages that nothing
-/// is written to are shared with the table given. Where the delta came from stores, it is as if these were
-/// made in order.
+/// Returns a table of pages with the stored bytes of a thunk applied: only the bytes at the marked places change. A
+/// slot past the table's end has no page, so nothing is written there. Pages that nothing is written to are shared with
+/// `table`. If the delta came from stores, the result is as if these were made in order.
 ///
 /// # Errors
 ///
-/// An error where the host's memory ran out.
+/// An error if the host's memory ran out, or a shared part has as many holders as can be counted.
 pub fn committed(table: &PageTable, delta: &Delta) -> Result<PageTable, AllocError>
     ensures bytes { IfOk result (λ after. after ≡ masked table.now delta.now) }
     ensures stores { IfOk result (WritesStores table.now delta.now) }
@@ -33,13 +32,14 @@ pub fn committed(table: &PageTable, delta: &Delta) -> Result<PageTable, AllocErr
     Ok(after)
 }
 
-/// Writes the stored bytes of a thunk into a table of pages: exactly the bytes at the marked places change;
-/// a slot past the table's end has no page, and nothing is written there. Where the delta came from stores, it is
-/// as if these were made in order. Tables that share pages with this one stay as they are.
+/// Writes the stored bytes of a thunk into a table of pages: only the bytes at the marked places change. A slot past
+/// the table's end has no page, so nothing is written there. If the delta came from stores, the result is as if these
+/// were made in order. Tables that share pages with this one don't change.
 ///
 /// # Errors
 ///
-/// An error where the host's memory ran out; the table is then as before.
+/// An error if the host's memory ran out, or a shared part has as many holders as can be counted; the table is then as
+/// before.
 pub fn commit(table: &mut PageTable, delta: &Delta) -> Result<(), AllocError>
     ensures bytes { OnOk result (table.new ≡ masked table.old delta.now) }
     ensures stores { OnOk result (WritesStores table.old delta.now table.new) }
@@ -49,7 +49,7 @@ pub fn commit(table: &mut PageTable, delta: &Delta) -> Result<(), AllocError>
     Ok(())
 }
 
-/// The page that a slot has after the stored bytes of a thunk were written: that of `committed`, alone.
+/// Returns the page that a slot has in the table that `committed` returns, without making the table.
 pub fn committed_page(table: &PageTable, delta: &Delta, slot: usize) -> Page
     requires { slot < length table.now }
     ensures { result ≡ page_of (masked table.now delta.now) slot }

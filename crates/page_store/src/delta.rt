@@ -13,10 +13,10 @@ use std::alloc::{AllocError, Global};
 use std::marker::Model;
 use std::sync::Arc;
 
-/// Where a thread stored to a page, and the page as its own copy has it.
+/// The places that a thread stored to in a page, and the thread's own copy of the page.
 #[derive(Clone, Copy)]
 pub struct OwnCopy<'a> {
-    /// The page, with the stored bytes at the marked places. What stands at the others is no part of the stored bytes.
+    /// The page, with the stored bytes at the marked places. The bytes at other places are no part of the stored bytes.
     pub page: &'a Page,
     /// The places that were stored to.
     pub mask: &'a Mask,
@@ -24,8 +24,8 @@ pub struct OwnCopy<'a> {
 
 /// The stored bytes of one page, at least one. A clause sees a `PageDelta` of `thunk_spec`.
 ///
-/// It keeps the thread's own copy of the page whole. Where nobody else changed the page, that is what a commit makes of
-/// it, and is shared and not made anew.
+/// It keeps the thread's own copy of the whole page. If no other thread changed the page, this copy is the page after a
+/// commit, which shares it instead of making another.
 #[derive(Drop)]
 pub struct PageDelta {
     alloc: Global,
@@ -55,7 +55,7 @@ impl PageDelta {
     ///
     /// # Errors
     ///
-    /// An error where the host's memory ran out.
+    /// An error if the host's memory ran out.
     pub fn new(alloc: Global, slot: usize, stored: Box<StoredPage>) -> Result<PageDelta, AllocError>
         requires { is_stored stored.value.mask ≡ true }
         ensures { IfOk result (λ delta. delta ≡ delta_in slot stored.value) }
@@ -101,11 +101,11 @@ impl PageDelta {
         Page::new(bytes)
     }
 
-    /// A page after the stored bytes were written into it, to be shared: the own copy itself, where it is that.
+    /// A page after the stored bytes were written into it, to be shared: the own copy itself, if it has the same bytes.
     ///
     /// # Errors
     ///
-    /// An error where the host's memory ran out, or the own copy has as many holders as can be counted.
+    /// An error if the host's memory ran out, or the own copy has as many holders as can be counted.
     pub fn written_shared(&self, page: &Page) -> Result<Arc<Page>, AllocError>
         ensures { IfOk result (λ after. arc_value after
             ≡ spread self.now.mask self.now.bytes page.now) }
@@ -116,8 +116,8 @@ impl PageDelta {
         self.made(page)
     }
 
-    /// A page made anew with the stored bytes written into another. It stands by itself, since its callers would clear
-    /// the room for it also where the own copy is the page.
+    /// A copy of a page with the stored bytes written into it. This is a function of its own, since its caller would
+    /// otherwise clear the room for the page even if the own copy is the result.
     #[inline(never)]
     fn made(&self, page: &Page) -> Result<Arc<Page>, AllocError>
         ensures { IfOk result (λ after. arc_value after

@@ -12,8 +12,7 @@ use std::sync::Arc;
 /// How many pages a full group has: a power of two, so that a page's group is a shift and its place a mask.
 pub const GROUP_SIZE: usize = 8;
 
-/// Some pages that follow one another. It never changes: another group is made in its place. A clause sees the list of
-/// their bytes.
+/// Some consecutive pages. A group never changes: another one replaces it. A clause sees the list of the pages' bytes.
 #[derive(Drop)]
 pub struct Group {
     pages: Vec<Arc<Page>>,
@@ -33,7 +32,7 @@ impl Group {
     ///
     /// # Errors
     ///
-    /// An error where the host's memory ran out.
+    /// An error if the host's memory ran out.
     pub fn of_one(alloc: Global, page: Arc<Page>) -> Result<Group, AllocError>
         ensures { IfOk result (λ group. group ≡ arc_value page ∷ []) }
     {
@@ -51,11 +50,11 @@ impl Group {
         &self.pages[place]
     }
 
-    /// The page in a place, to be kept beside this group.
+    /// The page in a place, to be shared with this group.
     ///
     /// # Errors
     ///
-    /// An error where the page has as many holders as can be counted.
+    /// An error if the page has as many holders as can be counted.
     #[inline(always)]
     pub fn page_arc(&self, place: usize) -> Result<Arc<Page>, AllocError>
         requires { place < length self.now }
@@ -68,7 +67,7 @@ impl Group {
     ///
     /// # Errors
     ///
-    /// An error where the host's memory ran out, or a page has as many holders as can be counted.
+    /// An error if the host's memory ran out, or a page has as many holders as can be counted.
     pub fn with_page(
         &self,
         alloc: Global,
@@ -83,11 +82,11 @@ impl Group {
         Ok(Group { pages })
     }
 
-    /// A group of the same pages and one more behind them. No byte is copied.
+    /// A group of the same pages and one more after them. No byte is copied.
     ///
     /// # Errors
     ///
-    /// An error where the host's memory ran out, or a page has as many holders as can be counted.
+    /// An error if the host's memory ran out, or a page has as many holders as can be counted.
     pub fn with_one_more(&self, alloc: Global, page: Arc<Page>) -> Result<Group, AllocError>
         ensures { IfOk result (λ group. group ≡ self.now ++ arc_value page ∷ []) }
     {
@@ -97,7 +96,7 @@ impl Group {
     }
 }
 
-/// These again, in a list with room for so many.
+/// Shares these items in a new list with room for `room` of them.
 pub(super) fn shared<T: Drop>(
     alloc: Global,
     items: &[Arc<T>],

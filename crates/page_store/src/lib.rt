@@ -1,8 +1,8 @@
-//! Memory by pages of 4,096 bytes: tables of pages that share them, the page map of a guest, what a thunk stored and which
+//! Memory by pages of 4,096 bytes: tables that share pages, the page map of a guest, what a thunk stored and which
 //! pages it read, and stores written to shared pages.
 //!
 //! - A page, and a table of pages.
-//! - The page map: which pages a guest has, in which slot each stands, and what each permits; and the trait of a memory
+//! - The page map: which pages a guest has, in which slot each is, and what each permits; and the trait of a memory
 //!   that a thread works on.
 //! - What is kept of a thunk's memory: at which places of a page it stored, the pages that it stored to, and the pages
 //!   that it read; and how these stores are written to a table.

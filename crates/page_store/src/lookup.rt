@@ -1,4 +1,4 @@
-//! The slot of an address in a list of pages, by halves.
+//! The slot of an address in a list of pages, by binary search.
 
 ghost use Rattle.std.specs.Prelude.{◌≡◌, ◌<◌, ◌/◌, true, length, slice_index_or, IfSome, IfNone};
 ghost use Rattle.memory_spec.specs.Pages.{slot_of, ascends_above, unmapped};
@@ -16,7 +16,7 @@ pub(super) fn number_at(pages: &[MappedPage], slot: usize) -> u32
     page.number()
 }
 
-/// The slot of an address, by halves. None exactly where no page has it.
+/// The slot of an address, by binary search. None exactly if no page has it.
 #[cold]
 pub(super) fn find(pages: &[MappedPage], address: u32) -> Option<usize>
     requires { ascends_above 0 pages.now ≡ true }

@@ -15,22 +15,22 @@ const BLOCK: usize = 4096;
 /// How many blocks the page numbers of all addresses have.
 const BLOCKS: usize = 256;
 
-/// How many places there are: those of 7 blocks, and those of all others, which are free.
+/// How many places there are: those of 7 blocks, and one block of zeros, which all other blocks share.
 const PLACES: usize = 32_768;
 
-/// The slots of pages, found by two looks: at the block of a page number, and at its place there. The places are 64 KiB
-/// on the heap, so that a map is moved by few bytes.
+/// The slots of pages, found by two look-ups: of the block of a page number, and of its place there. The places are 64
+/// KiB on the heap, so that moving a map moves few bytes.
 ///
-/// The pages of a guest lie in few blocks: those of the input in 1, those of the stacks in 1, 1,024 of an image that
-/// has no gaps in 2 at most. Pages in a block for which there is no room aren't listed; nor are those of slots that are
-/// no `u16`.
+/// The pages of a guest lie in few blocks: the input's in 1, the stacks' in 1, and the 1,024 of an image without gaps
+/// in 2 at most. A page isn't listed if there is no room for its block, if its number is in none of the 256 blocks, or
+/// if one more than its slot is no `u16`.
 #[derive(Drop)]
 pub(super) struct Table {
     /// Where the places of each block begin; 0 for a block that isn't listed.
     starts: [u16; BLOCKS],
     /// One more than the slot, or 0.
     places: Vec<u16>,
-    /// How many places blocks have.
+    /// How many places are used, the block of zeros included.
     used: usize,
 }
 
@@ -39,7 +39,7 @@ impl Table {
     ///
     /// # Errors
     ///
-    /// An error where the host's memory ran out.
+    /// An error if the host's memory ran out.
     pub(super) fn of(alloc: Global, pages: &[MappedPage]) -> Result<Table, AllocError>
         ensures { IfOk result
             (λ table. IsTable pages.now table.starts table.places.items table.used) }
@@ -71,7 +71,7 @@ impl Table {
         }
     }
 
-    /// Where the places of a block begin, the next that are free if it had none; 0 where there is no room.
+    /// Where the places of a block begin; a block that had none gets the next unused ones. 0 if there is no room.
     fn start_for(&mut self, pages: &[MappedPage], block: usize) -> usize
         requires table { IsTable pages.now self.old.starts self.old.places.items self.old.used }
         requires block { block < BLOCKS }
@@ -88,7 +88,7 @@ impl Table {
         next
     }
 
-    /// The slot of an address, where its page is listed. None says nothing.
+    /// The slot of an address, if its page is listed. None doesn't mean that no page has the address.
     #[inline(always)]
     pub(super) fn slot_of(&self, pages: &[MappedPage], address: u32) -> Option<usize>
         requires ascends { ascends_above 0 pages.now ≡ true }

@@ -13,7 +13,7 @@ use std::marker::Model;
 /// How many words hold the marks of a page.
 pub const MASK_WORDS: usize = PAGE_SIZE / 64;
 
-/// For each of the 4,096 places of a page: is it marked? A clause sees the list of these.
+/// For each of the 4,096 places of a page, whether it is marked. A clause sees the list of these.
 #[derive(Drop)]
 pub struct Mask {
     words: [u64; MASK_WORDS],
@@ -30,7 +30,7 @@ impl Model for Mask {
     ghost invariant = { λ m. length m.words ≡ 64 };
 }
 
-/// The place of a word that isn't zero.
+/// The place of the first word that isn't zero.
 fn first_marked(words: &[u64]) -> Option<usize>
     ensures found { IfSome result (λ k. (k < length words.now) × (0 < slice_index words.now k)
         × (slice_index words.now k < 2 ^ 64)) }
@@ -94,7 +94,7 @@ impl Mask {
     }
 
     /// Writes the bytes of another page at the marked places of a page, 64 places at a time. Words that mark nothing
-    /// are passed over, since most do.
+    /// are skipped; most mark nothing.
     pub fn merge(&self, page: &mut [u8], written: &[u8])
         requires page_is_whole { length page.old ≡ PAGE_SIZE }
         requires written_is_whole { length written.now ≡ PAGE_SIZE }
@@ -108,8 +108,8 @@ impl Mask {
         }
     }
 
-    /// Whether a page is another page once this one's bytes were written at the marked places. Places between two words
-    /// that mark some are compared at once, since most words mark none.
+    /// Whether a page becomes equal to another one once the other's bytes are written at the marked places. The places
+    /// between two words with marks are compared at once, since most words have none.
     pub fn gives_written(&self, page: &[u8], written: &[u8]) -> bool
         requires page_is_whole { length page.now ≡ PAGE_SIZE }
         requires written_is_whole { length written.now ≡ PAGE_SIZE }

@@ -40,8 +40,8 @@ fn select_marked(word: u64, written: u8x64, page: u8x64) -> u8x64
     (bytes & bits).simd_eq(bits).select(written, page)
 }
 
-/// Writes 64 bytes of another page from a place on, at those whose bit is set in a word. A word that marks all its
-/// places is looked for first: steps that store much store to whole stretches.
+/// Writes those of 64 bytes of another page, from a place on, whose bit is set in a word. A word that marks all 64
+/// places is handled first: steps that store much store to whole stretches.
 #[inline(always)]
 pub(super) fn merge_word(page: &mut [u8], written: &[u8], first: usize, word: u64)
     requires page { first + 64 ≤ length page.old }
@@ -61,7 +61,7 @@ pub(super) fn merge_word(page: &mut [u8], written: &[u8], first: usize, word: u6
     select_marked(word, wanted, before).copy_to_slice(&mut page[first..]);
 }
 
-/// At which of 64 places from one on two pages differ, as a word whose lowest bit is the first place.
+/// At which of the 64 places from `first` on two pages differ, as a word whose lowest bit is the first place.
 #[inline(always)]
 fn differing(page: &[u8], written: &[u8], first: usize) -> u64
     requires page { first + 64 ≤ length page.now }
@@ -75,8 +75,8 @@ fn differing(page: &[u8], written: &[u8], first: usize) -> u64
         .to_bitmask()
 }
 
-/// Whether two pages have the same bytes from a place on up to another. None lies between two words side by side, so
-/// that is seen first.
+/// Whether two pages have the same bytes from one place up to another. Between adjacent words there are none, so that
+/// case comes first.
 #[inline(always)]
 pub(super) fn same_between(page: &[u8], written: &[u8], from: usize, to: usize) -> bool
     requires ordered { from ≤ to }
@@ -91,8 +91,8 @@ pub(super) fn same_between(page: &[u8], written: &[u8], from: usize, to: usize) 
     page[from..to] == written[from..to]
 }
 
-/// Whether 64 bytes of a page from a place on are those of another page once this one's were written at those whose bit
-/// is set in a word. A word that marks all takes no look at single places.
+/// Whether 64 bytes of a page, from a place on, become equal to those of another page once the other's are written at
+/// the places whose bit is set in a word. For a word that marks all places, no byte is compared.
 pub(super) fn gives_word(page: &[u8], written: &[u8], first: usize, word: u64) -> bool
     requires page { first + 64 ≤ length page.now }
     requires written { first + 64 ≤ length written.now }

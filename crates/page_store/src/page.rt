@@ -53,7 +53,7 @@ impl Page {
         Page { bytes: self.bytes }
     }
 
-    /// Its bytes. That there are 4,096 is what a caller learns of any page.
+    /// Its bytes. A caller learns that every page has 4,096.
     #[inline(always)]
     pub fn bytes(&self) -> &[u8; PAGE_SIZE]
         ensures value { result.now ≡ self.now }
@@ -81,7 +81,7 @@ impl Page {
     }
 }
 
-/// Two pages are equal where their bytes are.
+/// Two pages are equal if their bytes are.
 impl PartialEq for Page {
     ghost eq = { bytes_eq };
 

@@ -60,7 +60,7 @@ impl MappedPage {
     }
 }
 
-/// Two mapped pages are equal where their numbers and what they permit are.
+/// Two mapped pages are equal if they have the same number and permit the same.
 impl PartialEq for MappedPage {
     ghost eq = { is_same_page };
 
@@ -80,8 +80,8 @@ impl Eq for MappedPage {
 
 /// The mapped pages, in ascending order, each in its slot.
 ///
-/// A clause sees the list of them, each a `Mapped` of `memory_spec`. Beside the list stands a table that finds the
-/// slots of most.
+/// A clause sees the list of them, each a `Mapped` of `memory_spec`. A table with the list finds the slots of most
+/// pages.
 #[derive(Drop)]
 pub struct PageMap {
     pages: Vec<MappedPage>,
@@ -102,11 +102,11 @@ impl Model for PageMap {
 }
 
 impl PageMap {
-    /// The map of these pages. Each stands above the one before it, and none is page 0.
+    /// The map of these pages. Each has a larger number than the one before it, and none is page 0.
     ///
     /// # Errors
     ///
-    /// An error where the host's memory ran out.
+    /// An error if the host's memory ran out.
     pub fn new(alloc: Global, pages: Vec<MappedPage>) -> Result<PageMap, AllocError>
         requires { ascends_above 0 pages.items ≡ true }
         ensures { IfOk result (λ map. map ≡ pages.items) }
@@ -115,7 +115,7 @@ impl PageMap {
         Ok(PageMap { pages, table })
     }
 
-    /// The slot of an address. None exactly where no page has it.
+    /// The slot of an address. None exactly if no page has it.
     #[inline(always)]
     pub fn slot_of(&self, address: u32) -> Option<Slot>
         ensures found { IfSome result (λ slot. (slot ≡ slot_of self.now address)
@@ -128,8 +128,8 @@ impl PageMap {
         }
     }
 
-    /// The slot of an address, where the map's table lists its page: the faster way, for one who asks `slot_of` where
-    /// there is none, which says nothing.
+    /// The slot of an address, if the map's table lists its page. This is faster than `slot_of`. None doesn't mean that
+    /// no page has the address: `slot_of` decides that.
     #[inline(always)]
     pub fn listed_slot(&self, address: u32) -> Option<Slot>
         ensures { IfSome result (λ slot. (slot ≡ slot_of self.now address)
@@ -183,7 +183,7 @@ impl PageMap {
     }
 }
 
-/// Two page maps are equal where they have the same pages.
+/// Two page maps are equal if they have the same pages.
 impl PartialEq for PageMap {
     ghost eq = { is_same_map };
 

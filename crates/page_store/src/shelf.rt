@@ -13,8 +13,8 @@ use std::sync::Arc;
 /// How many pages a full shelf has: eight groups of them.
 pub const SHELF_SIZE: usize = 8 * GROUP_SIZE;
 
-/// Some pages that follow one another, in groups that are full but the last. It never changes: another shelf is made in
-/// its place, which shares all groups but one. A clause sees the list of their bytes.
+/// Some consecutive pages, in groups that are all full except the last. A shelf never changes: another one, which
+/// shares all groups but one, replaces it. A clause sees the list of the pages' bytes.
 #[derive(Drop)]
 pub struct Shelf {
     groups: Vec<Arc<Group>>,
@@ -37,7 +37,7 @@ impl Shelf {
     ///
     /// # Errors
     ///
-    /// An error where the host's memory ran out.
+    /// An error if the host's memory ran out.
     pub fn of_one(alloc: Global, page: Arc<Page>) -> Result<Shelf, AllocError>
         ensures { IfOk result (λ shelf. shelf ≡ arc_value page ∷ []) }
     {
@@ -56,11 +56,11 @@ impl Shelf {
         self.groups[place / GROUP_SIZE].page(place % GROUP_SIZE)
     }
 
-    /// The page in a place, to be kept beside this shelf.
+    /// The page in a place, to be shared with this shelf.
     ///
     /// # Errors
     ///
-    /// An error where the page has as many holders as can be counted.
+    /// An error if the page has as many holders as can be counted.
     #[inline(always)]
     pub fn page_arc(&self, place: usize) -> Result<Arc<Page>, AllocError>
         requires { place < length self.now }
@@ -73,7 +73,7 @@ impl Shelf {
     ///
     /// # Errors
     ///
-    /// An error where the host's memory ran out, or what is shared has as many holders as can be counted.
+    /// An error if the host's memory ran out, or a shared part has as many holders as can be counted.
     pub fn with_page(
         &self,
         alloc: Global,
@@ -90,11 +90,11 @@ impl Shelf {
         Ok(Shelf { groups })
     }
 
-    /// A shelf of the same pages and one more behind them, in the place that follows. No byte is copied.
+    /// A shelf of the same pages and one more after them, in the next place. No byte is copied.
     ///
     /// # Errors
     ///
-    /// An error where the host's memory ran out, or what is shared has as many holders as can be counted.
+    /// An error if the host's memory ran out, or a shared part has as many holders as can be counted.
     pub fn with_one_more(
         &self,
         alloc: Global,

@@ -16,7 +16,7 @@ pub struct StoredPage {
 }
 
 impl StoredPage {
-    /// A copy of a page that nothing was stored to.
+    /// A copy of a page, with no stores in it.
     pub fn of(page: &Page) -> StoredPage
         ensures page { result.page ≡ page.now }
         ensures mask { result.mask ≡ no_marks }

@@ -17,10 +17,10 @@ use std::sync::Arc;
 
 /// Pages by slot, which several tables may share. A clause sees the list of their bytes.
 ///
-/// The pages stand in groups of eight, and these on shelves of eight, all full but the last. The tables share whole
-/// shelves: a snapshot copies one pointer a shelf; a change of a page makes the group anew that has it and that group's
-/// shelf, and one page more the last ones. A pointer that is shared is counted, which several processors see, so that
-/// few of them are what makes both cheap.
+/// The pages are in groups of eight, and the groups on shelves of eight, all full except the last. Tables share whole
+/// shelves: a snapshot copies one pointer per shelf. A change of a page rebuilds its group and that group's shelf;
+/// another page at the end rebuilds the last ones. Each copy of a shared pointer changes a count that several
+/// processors see, so both are cheap because they copy few pointers.
 #[derive(Drop)]
 pub struct PageTable {
     alloc: Global,
@@ -56,7 +56,7 @@ impl PageTable {
     ///
     /// # Errors
     ///
-    /// An error where the host's memory ran out, or what is shared has as many holders as can be counted.
+    /// An error if the host's memory ran out, or a shared part has as many holders as can be counted.
     pub fn new(alloc: Global, pages: Vec<Arc<Page>>) -> Result<PageTable, AllocError>
         ensures { IfOk result (λ table. table ≡ map arc_value pages.items) }
     {
@@ -86,11 +86,11 @@ impl PageTable {
         self.shelves[slot / SHELF_SIZE].page(slot % SHELF_SIZE)
     }
 
-    /// The page in a slot, to be kept beside this table. No byte is copied.
+    /// The page in a slot, to be shared with this table. No byte is copied.
     ///
     /// # Errors
     ///
-    /// An error where the page has as many holders as can be counted.
+    /// An error if the page has as many holders as can be counted.
     #[inline(always)]
     pub fn page_arc(&self, slot: usize) -> Result<Arc<Page>, AllocError>
         requires { slot < length self.now }
@@ -103,8 +103,8 @@ impl PageTable {
     ///
     /// # Errors
     ///
-    /// An error where the host's memory ran out, or what is shared has as many holders as can be counted; the table is
-    /// then as before.
+    /// An error if the host's memory ran out, or a shared part has as many holders as can be counted; the table is then
+    /// as before.
     pub fn push(&mut self, page: Page) -> Result<(), AllocError>
         ensures ok { OnOk result (self.new ≡ self.old ++ page ∷ []) }
         ensures err { OnErr result (self.new ≡ self.old) }
@@ -117,8 +117,8 @@ impl PageTable {
     ///
     /// # Errors
     ///
-    /// An error where the host's memory ran out, or what is shared has as many holders as can be counted; the table is
-    /// then as before.
+    /// An error if the host's memory ran out, or a shared part has as many holders as can be counted; the table is then
+    /// as before.
     pub fn push_shared(&mut self, page: &Arc<Page>) -> Result<(), AllocError>
         ensures ok { OnOk result (self.new ≡ self.old ++ arc_value page.now ∷ []) }
         ensures err { OnErr result (self.new ≡ self.old) }
@@ -127,11 +127,11 @@ impl PageTable {
         self.push_owned(shared)
     }
 
-    /// A table of the same pages, which later changes of this one don't touch. No byte is copied.
+    /// A table of the same pages, which later changes of this one don't affect. No byte is copied.
     ///
     /// # Errors
     ///
-    /// An error where the host's memory ran out, or a shelf has as many holders as can be counted.
+    /// An error if the host's memory ran out, or a shelf has as many holders as can be counted.
     pub fn snapshot(&self) -> Result<PageTable, AllocError>
         ensures { IfOk result (λ table. table ≡ self.now) }
     {
@@ -147,8 +147,8 @@ impl PageTable {
     ///
     /// # Errors
     ///
-    /// An error where the host's memory ran out, or what is shared has as many holders as can be counted; the table is
-    /// then as before.
+    /// An error if the host's memory ran out, or a shared part has as many holders as can be counted; the table is then
+    /// as before.
     pub fn replace(&mut self, slot: usize, page: Page) -> Result<(), AllocError>
         requires { slot < length self.old }
         ensures ok { OnOk result (self.new ≡ slice_set self.old slot page) }
@@ -158,12 +158,12 @@ impl PageTable {
         self.replace_owned(slot, shared)
     }
 
-    /// Puts a page that others hold too in the place of the one in a slot. No byte is copied.
+    /// Puts a page that others may hold too in the place of the one in a slot. No byte is copied.
     ///
     /// # Errors
     ///
-    /// An error where the host's memory ran out, or what is shared has as many holders as can be counted; the table is
-    /// then as before.
+    /// An error if the host's memory ran out, or a shared part has as many holders as can be counted; the table is then
+    /// as before.
     pub fn replace_owned(&mut self, slot: usize, page: Arc<Page>) -> Result<(), AllocError>
         requires { slot < length self.old }
         ensures ok { OnOk result (self.new ≡ slice_set self.old slot (arc_value page)) }
@@ -177,7 +177,7 @@ impl PageTable {
         Ok(())
     }
 
-    /// Puts a page into the next slot: onto the last shelf, or onto one of its own.
+    /// Puts a page into the next slot: onto the last shelf, or onto a new one.
     fn push_owned(&mut self, page: Arc<Page>) -> Result<(), AllocError>
         ensures ok { OnOk result (self.new ≡ self.old ++ arc_value page ∷ []) }
         ensures err { OnErr result (self.new ≡ self.old) }
@@ -200,7 +200,7 @@ impl PageTable {
     }
 }
 
-/// Two tables are equal where they have the same pages, slot by slot.
+/// Two tables are equal if they have the same pages, slot by slot.
 impl PartialEq for PageTable {
     ghost eq = { pointwise bytes_eq };
 

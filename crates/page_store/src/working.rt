@@ -10,7 +10,7 @@ ghost use Rattle.page_store.specs.Entering.{Enters};
 use super::pages::Slot;
 use memory_spec::{MemoryError, PAGE_SIZE, Size};
 
-/// A memory that a thread works on: a view, with the thread's own stores laid over it.
+/// A memory that a thread works on: a view with the thread's own stores applied.
 ///
 /// It notes from which pages a byte was taken, and at which places a byte was stored.
 pub trait Mem {
@@ -21,8 +21,8 @@ pub trait Mem {
     ///
     /// # Errors
     ///
-    /// `Access` exactly where the page isn't mapped or may not be executed; `NoMemory` where the
-    /// host has no memory left. Nothing changes then.
+    /// `Access` exactly if the page isn't mapped or may not be executed; `NoMemory` if the host has no memory left.
+    /// Nothing changes then.
     fn fetch(&mut self, address: u32) -> Result<u32, MemoryError>
         requires { address % 4 ≡ 0 }
         ensures { Takes (workspace self.old) address
@@ -34,8 +34,8 @@ pub trait Mem {
     ///
     /// # Errors
     ///
-    /// `Access` exactly where the page isn't mapped or may not be read; `NoMemory` where the host
-    /// has no memory left. Nothing changes then.
+    /// `Access` exactly if the page isn't mapped or may not be read; `NoMemory` if the host has no memory left. Nothing
+    /// changes then.
     fn load(&mut self, address: u32, size: Size) -> Result<u32, MemoryError>
         requires { address % byte_count size ≡ 0 }
         ensures found { Takes (workspace self.old) address
@@ -48,14 +48,15 @@ pub trait Mem {
     ///
     /// # Errors
     ///
-    /// `Access` exactly where the page isn't mapped or may not be written; `NoMemory` where the
-    /// host has no memory left. Nothing changes then.
+    /// `Access` exactly if the page isn't mapped or may not be written; `NoMemory` if the host has no memory left.
+    /// Nothing changes then.
     fn store(&mut self, address: u32, size: Size, value: u32) -> Result<(), MemoryError>
         requires { address % byte_count size ≡ 0 }
         ensures { Stores (workspace self.old) address size value result (workspace self.new) };
 
-    /// Enters the page of an address, to run its instructions: a byte of it is taken. The slot of the page, which may
-    /// be executed, and in which the memory has the view's bytes; or none, which says nothing, and nothing changes.
+    /// Enters the page of an address, to run its instructions: a byte of it is taken. Returns the slot of the page,
+    /// which may be executed, and in which the memory has the view's bytes. None says nothing about the page; nothing
+    /// changes then.
     fn enter(&mut self, address: u32) -> Option<Slot>
         ensures entered { IfSome result
             (λ slot. Enters (workspace self.old) address slot (workspace self.new)) }

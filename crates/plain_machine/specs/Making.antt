@@ -1,4 +1,4 @@
--- What is told of a step.
+-- What is reported of a step.
 use Rattle.std.specs.Prelude.{◌≡◌, ℕ}
 use Rattle.thunk_spec.specs.Thunk.{Thunk, thunk}
 use Rattle.machine_spec.specs.Machine.{Machine, hart_of}
@@ -12,11 +12,11 @@ use Rattle.machine_calls.specs.Doing.{effect_made}
 abbrev pub thunk_of : Machine → ℕ → Thunk
 thunk_of m t = thunk m.frame (hart_of m t).view (hart_of m t).regs
 
--- What a thunk that was run asks of the machine.
+-- What a thunk that was run requests of the machine.
 abbrev pub asked_by : ℕ → ThunkResult → Asked
 asked_by t d = asked t d.end d.regs
 
--- What was made is the step of a thread: its count of turns, what its thunk asks, and what its call does.
+-- A result is that of the step of a thread: its count of turns, what its thunk requests, and what its call does.
 pub record IsMade (m : Machine) (t : ℕ) (made : StepResult) : Type 0 where
   pub count : made.count ≡ (thunk_of m t).count
   pub asks : made.asked ≡ asked t (thunk_of m t).end (thunk_of m t).regs

@@ -1,4 +1,4 @@
--- What a whole schedule comes to, and why it comes to no end.
+-- The outcome of a whole schedule, and why it has none.
 use Rattle.std.specs.Prelude.{◌≡◌, ℕ, ◌+◌, ◌<◌, true, false, List, [], ◌∷◌, length, take, slice_index, Some, None}
 use Rattle.machine_spec.specs.Machine.{Machine}
 use Rattle.machine_spec.specs.Step.{step, can_step}
@@ -13,7 +13,7 @@ abbrev pub turns_from : Machine → List ℕ → ℕ
 turns_from m [] = 0
 turns_from m (t ∷ schedule) = (thunk_of m t).count + turns_from (step m t) schedule
 
--- A machine has ended, and this is told of it, with so many turns.
+-- A machine has ended, and this is its outcome, with so many turns.
 pub record TellsOf (m : Machine) (instructions : ℕ) (o : Outcome) : Type 0 where
   pub ending : m.ending ≡ Some o.ending
   pub steps : o.steps ≡ m.steps
@@ -21,7 +21,7 @@ pub record TellsOf (m : Machine) (instructions : ℕ) (o : Outcome) : Type 0 whe
   pub memory : o.memory ≡ m.memory
   pub output : o.output.items ≡ m.output
 
--- Why nothing is told of a machine: it has no end, or the host's memory ran out.
+-- Why a machine has no outcome: it has no end, or the host's memory ran out.
 abbrev pub LacksEnd : Machine → ReplayError → Type 0
 LacksEnd m (Forbidden i) = false ≡ true
 LacksEnd m Incomplete = m.ending ≡ None
@@ -44,7 +44,7 @@ pub record IsFirstForbidden (setup : Setup) (schedule : List ℕ) (i : ℕ) : Ty
   pub before : is_permitted setup (take i schedule) ≡ true
   pub forbidden : can_step (scratch setup (take i schedule)) (slice_index schedule i) ≡ false
 
--- The causes: an entry that is forbidden; a schedule that is permitted and not complete; or want of memory.
+-- The causes: an entry that is forbidden; a schedule that is permitted and not complete; or the host's memory ran out.
 abbrev pub IsCauseOf : Setup → List ℕ → ReplayError → Type 0
 IsCauseOf setup schedule (Forbidden i) = IsFirstForbidden setup schedule i
 IsCauseOf setup schedule Incomplete = (is_permitted setup schedule ≡ true) × (is_complete setup schedule ≡ false)

@@ -1,4 +1,4 @@
--- What turns leave, and what a thunk in code is.
+-- The result of turns, and what a thunk in code is.
 use Rattle.std.specs.Prelude.{◌≡◌, ℕ, ◌+◌, List}
 use Rattle.isa_spec.specs.Registers.{Registers}
 use Rattle.memory_spec.specs.Pages.{Mapped, Memory, IsMemory}
@@ -9,7 +9,7 @@ use Rattle.thunk_spec.specs.Thunk.{Frame, Thunk, thunk, turns}
 use Rattle.plain_machine.specs.declared.thunk.ThunkResult.{ThunkResult}
 use Rattle.plain_machine.specs.Stored.{bytes_of}
 
--- What turns leave: registers, how they ended, how many they were, memory, and where it was stored to.
+-- The result of turns: registers, how they ended, how many they were, memory, and where it was stored to.
 pub record TurnsOutcome : Type 0 where
   pub regs : Registers
   pub end : ThunkEnd
@@ -17,7 +17,7 @@ pub record TurnsOutcome : Type 0 where
   pub memory : Memory
   pub stored : Masks
 
--- What the turns of a thunk leave of a memory.
+-- The result of a thunk's turns on a memory.
 abbrev pub left_by : List Mapped → Memory → Masks → Thunk → TurnsOutcome
 left_by map memory stored t =
     record {
@@ -28,16 +28,16 @@ left_by map memory stored t =
       stored = marked map stored t.stores;
     }
 
--- What so many turns of a memory and registers leave at most.
+-- The result of at most so many turns, from a memory and registers.
 abbrev pub left_after : List Mapped → ℕ → Memory → Masks → Registers → TurnsOutcome
 left_after map fuel memory stored r = left_by map memory stored (turns map fuel memory r)
 
--- The same after so many turns before.
+-- The same, with so many earlier turns counted.
 abbrev pub counted : ℕ → TurnsOutcome → TurnsOutcome
 counted before l = record l { count = before + l.count }
 
--- What was done is the thunk of these registers on this view: and its stores leave on every memory of the map what the
--- thunk's do.
+-- A result is that of the thunk of these registers on this view. Its stores have the same effect on every memory of the
+-- map as the thunk's.
 pub record IsDone (f : Frame) (view : Memory) (start : Registers) (d : ThunkResult) : Type 0 where
   pub regs : d.regs ≡ (thunk f view start).regs
   pub end : d.end ≡ (thunk f view start).end

@@ -13,13 +13,13 @@ use Rattle.plain_machine.specs.Fetching.{IsLast}
 abbrev pub stored_of : Inside → Masks
 stored_of w = marked (arc_value w.map) (on_each no_marks (arc_value w.map)) (bytes_of w.stores.items)
 
--- The workspace: nobody asks for the view again, and no read pages are noted.
+-- The workspace. It has no view and no read pages, since nothing needs them.
 abbrev pub workspace_of : Inside → Workspace
 workspace_of w =
     record { map = arc_value w.map; view = []; memory = w.memory; stored = stored_of w; taken = [] }
 
--- There is a page for each of the map; what the stores leave on any memory is what they left on this one at the places
--- that they stored to; and the page that was fetched from last is where it is said to be.
+-- There is a page for each page of the map. The stores, applied to any memory, give it this memory's bytes at the
+-- places that they stored to, and change no others. The page that was fetched from last is in its slot.
 pub record Keeps (w : Inside) : Type 0 where
   pub count : length w.memory ≡ length (arc_value w.map)
   pub lays : (shared : Memory) → IsMemory (arc_value w.map) shared

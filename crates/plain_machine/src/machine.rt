@@ -27,7 +27,7 @@ use sync_objects::{Effect, Objects};
 pub struct StepResult {
     /// How many turns its thunk made.
     pub count: u32,
-    /// What the thunk asked for at its end: a call, or to end the run.
+    /// What the thunk requested at its end: a call, or the end of the run.
     pub asked: Asked,
     /// What the call did to the threads, if it was one.
     pub effect: Option<Effect>,
@@ -77,7 +77,7 @@ impl PlainMachine {
         self.ending
     }
 
-    /// How many threads there are, those that have ended among them.
+    /// How many threads there are, ended ones included.
     pub fn threads(&self) -> usize
         ensures count { result ≡ length self.now.harts }
         ensures whole { IsWhole self.now }
@@ -122,7 +122,7 @@ impl PlainMachine {
         self.steps
     }
 
-    /// The bytes that were put out.
+    /// The output so far.
     pub fn output(&self) -> &[u8]
         ensures { result.now ≡ self.now.output }
     {
@@ -133,7 +133,7 @@ impl PlainMachine {
     ///
     /// # Errors
     ///
-    /// An error where the host's memory ran out.
+    /// An error if the host's memory ran out.
     pub fn memory(&self) -> Result<PageTable, AllocError>
         ensures { IfOk result (λ table. table ≡ self.now.memory) }
     {
@@ -144,7 +144,7 @@ impl PlainMachine {
         Ok(table)
     }
 
-    /// The bytes that were put out, where the machine is of no more use.
+    /// The output so far. Consumes the machine.
     pub fn into_output(self) -> Vec<u8>
         ensures { result.items ≡ self.output }
     {
@@ -153,11 +153,11 @@ impl PlainMachine {
 }
 
 impl PlainMachine {
-    /// The machine that a setup starts as.
+    /// The machine at the start of a setup's run.
     ///
     /// # Errors
     ///
-    /// An error where the host's memory ran out.
+    /// An error if the host's memory ran out.
     #[tactic(auto, unfolding(machine_spec::specs::Setup::first))]
     pub fn new(alloc: Global, setup: &Setup) -> Result<PlainMachine, AllocError>
         ensures { IfOk result (λ machine. machine ≡ first setup.now) }
@@ -189,12 +189,12 @@ fn hart_at(harts: &Vec<Hart<Memory>>, t: u8) -> &Hart<Memory>
     &harts[usize::from(t)]
 }
 
-/// Does what thread `t`'s thunk asks, after it was written, and looks for the end: what the step did, and how the run
-/// ended, if it has.
+/// Performs what thread `t`'s thunk requests, after its stores were written, and checks whether the run ends. Returns
+/// what the step did, and how the run ended, if it has.
 ///
 /// # Errors
 ///
-/// An error where the host's memory ran out.
+/// An error if the host's memory ran out.
 fn finish(
     alloc: Global,
     harts: &mut Vec<Hart<Memory>>,
@@ -231,12 +231,12 @@ fn finish(
 }
 
 impl PlainMachine {
-    /// Makes a step of thread `t`, which may make one: its thunk is run on its view, its stores are laid on shared
-    /// memory in order, and its call is performed. The counter rises by the number of the thunk's turns.
+    /// Executes a step of thread `t`, which may make one: its thunk is run on its view, its stores are applied to
+    /// shared memory in order, and its call is performed. The counter rises by the number of the thunk's turns.
     ///
     /// # Errors
     ///
-    /// An error where the host's memory ran out; the machine is gone then.
+    /// An error if the host's memory ran out; the machine is consumed then.
     #[tactic(auto, using(machine_calls::proofs::Asking::below))]
     pub fn step(self, t: u8, turns: &mut Turns) -> Result<(PlainMachine, StepResult), AllocError>
         requires { step.can_step self t ≡ true }

@@ -1,7 +1,7 @@
 //! A memory, as the list of its pages.
 //!
-//! Copies of a memory share each page up to the first store to it: a page that only one memory lists is written where
-//! it stands, and a page that another one lists too is copied first.
+//! Copies of a memory share each page up to the first store to it: a page that only one memory lists is written in
+//! place, and a page that another one lists too is copied first.
 
 ghost use Rattle.std.specs.Prelude.{◌≡◌, ◌+◌, ◌<◌, ◌≤◌, [], ◌∷◌, ◌++◌, length, map, slice_set, IfOk, OnOk, OnErr};
 ghost use Rattle.std.specs.Rc.{rc_value};
@@ -111,7 +111,7 @@ impl Memory {
     ///
     /// # Errors
     ///
-    /// An error where the host's memory ran out.
+    /// An error if the host's memory ran out.
     pub(super) fn of(alloc: Global, table: &PageTable) -> Result<Memory, AllocError>
         ensures { IfOk result (λ memory. memory ≡ table.now) }
     {
@@ -142,7 +142,7 @@ impl Memory {
     ///
     /// # Errors
     ///
-    /// An error where the host's memory ran out; nothing is written then.
+    /// An error if the host's memory ran out; nothing is written then.
     #[inline(always)]
     pub(super) fn write(
         &mut self,

@@ -7,7 +7,7 @@ ghost use Rattle.plain_machine.specs.Fetching.{IsLast};
 use memory_spec::PAGE_SIZE;
 use page_store::{PageMap, Perm};
 
-/// The slot of an address, and what its page permits. None exactly where no page has it.
+/// The slot of an address, and what its page permits. None exactly if no page has it.
 #[inline(always)]
 #[tactic(auto, unfolding(memory_spec::specs::Pages::permission_at))]
 pub(super) fn permitted(map: &PageMap, address: u32) -> Option<(usize, Perm)>
@@ -48,7 +48,7 @@ impl LastPage {
     }
 }
 
-/// Looks for the page of an address in the map, and notes it where it may be executed.
+/// Looks up the page of an address in the map, and notes it if it may be executed.
 #[cold]
 #[inline(never)]
 fn find_code(map: &PageMap, last: &mut LastPage, address: u32) -> Option<usize>
@@ -71,8 +71,8 @@ fn find_code(map: &PageMap, last: &mut LastPage, address: u32) -> Option<usize>
     Some(slot)
 }
 
-/// The slot of an address whose page may be executed; that is then the page that was fetched from last. None exactly
-/// where no such page has it.
+/// The slot of an address whose page may be executed; it is then the page that was fetched from last. None exactly if
+/// no such page has it.
 #[inline(always)]
 pub(super) fn code_slot(map: &PageMap, last: &mut LastPage, address: u32) -> Option<usize>
     requires { IsLast map.now last.old }

@@ -48,7 +48,7 @@ pub(super) fn appends_all(map: &PageMap, start: u32, count: u32) -> bool
         && all_readable(map, start, count)
 }
 
-/// The byte at an address, or zero where no page has it.
+/// The byte at an address, or zero if no page has it.
 #[tactic(auto, using(crate::proofs::Putting::no_byte))]
 fn byte_at(map: &PageMap, memory: &Memory, address: u32) -> u8
     requires { length memory.now ≡ length map.now }
@@ -80,7 +80,7 @@ fn bytes_from(
     Ok(bytes)
 }
 
-/// The bytes that a call appends; none where it is no put that appends its bytes.
+/// The bytes that a call appends; none if it is no put that appends its bytes.
 fn bytes_of_call(
     alloc: Global,
     map: &PageMap,
@@ -103,11 +103,11 @@ fn bytes_of_call(
     }
 }
 
-/// The bytes that the thunk with this end and these registers appends, read in this memory; none where no put ends it.
+/// The bytes that the thunk with this end and these registers appends, read in this memory; none if no put ends it.
 ///
 /// # Errors
 ///
-/// An error where the host's memory ran out.
+/// An error if the host's memory ran out.
 #[tactic(auto, unfolding(thunk_spec::specs::Put::put_addresses))]
 pub(super) fn put_bytes(
     alloc: Global,

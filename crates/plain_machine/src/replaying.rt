@@ -10,7 +10,7 @@ use release_core::Setup;
 use rv_isa::Turns;
 use std::alloc::{AllocError, Global};
 
-/// What a schedule from scratch comes to.
+/// The outcome of a schedule from scratch.
 #[derive(Drop)]
 pub struct Outcome {
     /// How the run ended.
@@ -21,11 +21,11 @@ pub struct Outcome {
     pub instructions: u64,
     /// Shared memory at the end.
     pub memory: PageTable,
-    /// The bytes that were put out.
+    /// The output.
     pub output: Vec<u8>,
 }
 
-/// Why a schedule came to no end.
+/// Why a schedule has no outcome.
 #[derive(PartialEq, Eq, Clone, Copy, Drop)]
 pub enum ReplayError {
     /// This entry is the first that isn't permitted: its thread isn't ready, or an end came before it.
@@ -46,7 +46,7 @@ impl From<AllocError> for ReplayError {
     }
 }
 
-/// What a machine came to that made so many turns.
+/// The outcome of a machine that made so many turns.
 fn outcome_of(machine: PlainMachine, instructions: u64) -> Result<Outcome, ReplayError>
     ensures outcome { IfOk result (λ o. TellsOf machine instructions o) }
     ensures cause { IfErr result (λ e. LacksEnd machine e) }
@@ -63,13 +63,13 @@ fn outcome_of(machine: PlainMachine, instructions: u64) -> Result<Outcome, Repla
     }
 }
 
-/// Makes the steps of a schedule from scratch, one after the other, each instruction of each thunk executed. The
-/// counter rises by the number of the thunks' turns.
+/// Executes the steps of a schedule from scratch, one after the other, with each instruction of each thunk. The counter
+/// rises by the number of the thunks' turns.
 ///
 /// # Errors
 ///
-/// `Forbidden` exactly where an entry isn't permitted, with the first such; `Incomplete` exactly where all are and no
-/// end comes after the last; and `NoMemory` where the host's memory ran out.
+/// `Forbidden` if an entry isn't permitted, with the first such entry; `Incomplete` if all are permitted and no end
+/// comes after the last; `NoMemory` if the host's memory ran out.
 pub fn replay(
     alloc: Global,
     setup: &Setup,

@@ -1,4 +1,4 @@
-//! Stores, listed in order, and laid on a memory one after the other.
+//! Stores, listed in order, and applied to a memory one after the other.
 
 ghost use Rattle.std.specs.Prelude.{◌≡◌, ◌%◌, length, OnOk, OnErr};
 ghost use Rattle.memory_spec.specs.Access.{byte_count, bytes_stored};
@@ -12,8 +12,8 @@ use page_store::PageMap;
 use std::alloc::AllocError;
 use std::marker::Model;
 
-/// One store: its address, which is a multiple of the number of bytes, how many bytes, and the value whose lowest they
-/// are.
+/// One store: its address, which is a multiple of its size, its size in bytes, and the value whose lowest bytes it
+/// stores.
 #[derive(Clone, Copy)]
 pub(super) struct Stored {
     address: u32,
@@ -50,11 +50,11 @@ impl Stored {
     }
 }
 
-/// Lays a store on a memory, in the page that has all its bytes; one that no page has changes nothing.
+/// Applies a store to a memory, in the page that has all its bytes. A store that no page has changes nothing.
 ///
 /// # Errors
 ///
-/// An error where the host's memory ran out; nothing is laid then.
+/// An error if the host's memory ran out; the memory doesn't change then.
 #[inline(always)]
 #[tactic(auto, using(crate::proofs::Offsets::inside))]
 pub(super) fn lay(map: &PageMap, memory: &mut Memory, stored: Stored) -> Result<(), AllocError>
@@ -70,11 +70,11 @@ pub(super) fn lay(map: &PageMap, memory: &mut Memory, stored: Stored) -> Result<
     Ok(())
 }
 
-/// Lays stores on a memory, one after the other.
+/// Applies stores to a memory, one after the other.
 ///
 /// # Errors
 ///
-/// An error where the host's memory ran out; some of them may have been laid then.
+/// An error if the host's memory ran out; some of them may have been applied then.
 pub(super) fn lay_all(
     map: &PageMap,
     memory: &mut Memory,

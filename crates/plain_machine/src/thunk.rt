@@ -1,4 +1,4 @@
-//! One thunk, from a view to what it leaves.
+//! One thunk, from a view to its result.
 
 ghost use Rattle.std.specs.Prelude.{◌≡◌, ◌+◌, ◌≤◌, IfOk};
 ghost use Rattle.std.specs.Arc.{arc_value};
@@ -26,11 +26,11 @@ struct Ended {
 /// Makes turns, one at a time, up to the first that calls or traps, or as many as the fuel allows. The counter rises by
 /// the number of turns.
 ///
-/// It isn't put into its callers, whose values would take registers from the loop.
+/// It isn't inlined, since its caller's values would take registers from the loop.
 ///
 /// # Errors
 ///
-/// An error where the host's memory ran out.
+/// An error if the host's memory ran out.
 #[inline(never)]
 fn make_turns(
     fuel: u32,
@@ -75,8 +75,8 @@ fn make_turns(
     })
 }
 
-/// What a thunk leaves: its last registers, how it ended, how many turns it made, its stores in order, and the bytes of
-/// the put that ends it.
+/// The result of a thunk: its last registers, how it ended, how many turns it made, its stores in order, and the bytes
+/// of the put that ends it.
 #[derive(Drop)]
 pub(super) struct ThunkResult {
     pub(super) regs: Regs,
@@ -86,11 +86,12 @@ pub(super) struct ThunkResult {
     pub(super) put: Vec<u8>,
 }
 
-/// Runs the thunk of these registers on a view, which stays as it is. The counter rises by the number of turns.
+/// Runs the thunk that starts with these registers on a view, which doesn't change. The counter rises by the number of
+/// turns.
 ///
 /// # Errors
 ///
-/// An error where the host's memory ran out.
+/// An error if the host's memory ran out.
 pub(super) fn run(
     alloc: Global,
     map: &Arc<PageMap>,

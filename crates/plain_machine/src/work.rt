@@ -19,8 +19,8 @@ use std::alloc::{AllocError, Global};
 use std::marker::Model;
 use std::sync::Arc;
 
-/// A copy of a view with the thread's own stores laid on it, the list of the stores, and the page that was fetched
-/// from last. A clause sees a `Workspace` of `memory_spec`, in which the view and the read pages are left out.
+/// A copy of a view with the thread's own stores applied, the list of the stores, and the page that was fetched from
+/// last. A clause sees a `Workspace` of `memory_spec`, without the view and the read pages.
 #[derive(Drop)]
 pub(super) struct Work {
     map: Arc<PageMap>,
@@ -40,9 +40,9 @@ impl Model for Work {
     ghost invariant = { Keeps };
 }
 
-/// The word that stands in a page from an offset on, least byte first.
+/// The word in a page from an offset on, least byte first.
 ///
-/// It isn't forced into its callers: so it is simplified by itself first, and its four reads become one.
+/// Inlining isn't forced, so that this function is simplified by itself first, and its four reads become one.
 #[inline]
 #[tactic(auto, unfolding(memory_spec::specs::Access::number_in))]
 fn word_at(page: &Page, offset: usize) -> u32
@@ -56,7 +56,7 @@ fn word_at(page: &Page, offset: usize) -> u32
         + (u32::from(bytes[offset + 3]) << 24)
 }
 
-/// The number that stands in a page from an offset on, least byte first.
+/// The number in a page from an offset on, least byte first.
 #[inline(always)]
 #[tactic(auto, unfolding(memory_spec::specs::Access::number_in))]
 fn number_at(page: &Page, offset: usize, size: Size) -> u32
@@ -138,7 +138,7 @@ impl Work {
     ///
     /// # Errors
     ///
-    /// An error where the host's memory ran out.
+    /// An error if the host's memory ran out.
     pub(super) fn new(alloc: Global, map: &Arc<PageMap>, view: &Memory) -> Result<Work, AllocError>
         requires { IsMemory (arc_value map.now) view.now }
         ensures { IfOk result (λ work. work ≡ record {

@@ -1,4 +1,4 @@
--- What a slot of a thread's memory means, over the page that the view has in its place.
+-- What a slot of a thread's memory means, over the view's page in it.
 use Rattle.std.specs.Prelude.{◌≡◌, ℕ, Bool, true, false, List, [], ◌∷◌, length, slice_index_or}
 use Rattle.std.specs.Arc.{arc_value}
 use Rattle.memory_spec.specs.Pages.{Mapped, Memory, page_of, unmapped, allows, read_right, write_right}
@@ -10,7 +10,7 @@ use Rattle.priv_space.specs.declared.slot.Slot.TheVariants.{View, Shared, Own, H
 unfoldable pub untouched : Slot
 untouched = View false
 
--- The bytes that the slot shares with the view, which are the view's where nothing is.
+-- The bytes that the slot shares with the view; the view's if it shares none.
 unfoldable pub slot_shared : List ℕ → Slot → List ℕ
 slot_shared page (View taken) = page
 slot_shared page (Shared shared) = arc_value shared
@@ -42,8 +42,8 @@ slot_taken (Shared shared) = true
 slot_taken (Own own) = true
 slot_taken (Hidden taken own) = taken
 
--- A page of this permission may be held so: what loads find without a look at it may be read, and an own copy may be
--- stored to.
+-- A page of this permission may be held in this way: it may be read if loads find it without a check, and stored to if
+-- it has an own copy.
 abbrev pub IsPermitted : ℕ → Slot → Type 0
 IsPermitted permission (View taken) = Unit {0}
 IsPermitted permission (Shared shared) = allows read_right permission ≡ true
@@ -55,7 +55,7 @@ abbrev pub ArePermitted : List Mapped → List Slot → Type 0
 ArePermitted map slots =
     (i : ℕ) → IsPermitted (slice_index_or map i unmapped).permission (slice_index_or slots i untouched)
 
--- What each slot makes of the view's page in its place.
+-- The result of a function of each slot and the view's page in it.
 abbrev pub on_view : (List ℕ → Slot → List ℕ) → Memory → List Slot → Memory
 on_view f [] slots = []
 on_view f (page ∷ view) [] = []

@@ -18,6 +18,6 @@ workspace pages view slots = record {
   taken = map slot_taken slots;
 }
 
--- The workspace that a space stands for.
+-- The workspace of a space.
 abbrev pub workspace_of : Inside → Workspace
 workspace_of space = workspace (arc_value space.pages) (arc_value space.view) space.slots

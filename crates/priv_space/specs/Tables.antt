@@ -1,4 +1,4 @@
--- The slots that a table of touched ones stands for.
+-- The slots that a table of touched ones represents.
 use Rattle.std.specs.Prelude.{List}
 use Rattle.priv_space.specs.declared.slot.Slot.{Slot}
 use Rattle.priv_space.specs.declared.slots.Slots.TheInside.{Inside}

@@ -14,7 +14,7 @@ mod space;
 
 pub use space::Space;
 
-/// What a memory that a thread works on keeps of its stores is what the stores leave, on any view.
+/// On any view, the delta that is kept of a memory that a thread works on is the delta of its stores.
 pub fn delta_is_of_the_stores()
     ensures { (map : List Mapped) (view : Memory) (stores : List StoredByte)
         → IsMemory map view

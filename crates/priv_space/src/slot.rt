@@ -17,9 +17,9 @@ use std::sync::Arc;
 
 /// What the thread holds of a page, and whether it took a byte of it.
 ///
-/// One that wasn't touched has no share, so that a view of many pages costs no count of holders for those
-/// that a thread leaves alone. A load from a share or from an own copy that is `Own`, and a store to an own copy,
-/// needs no look at the page's rights: they were looked at before it came to that.
+/// An untouched slot has no share, so that a view of many pages costs no count of holders for those that a thread
+/// doesn't touch. Loads from a `Shared` or an `Own` slot, and stores to an own copy, don't check the page's rights:
+/// they were checked when the slot came to this state.
 #[derive(Drop)]
 pub(super) enum Slot {
     /// Nothing: its page is the view's. Only instructions were taken from it, if any byte was.
@@ -31,7 +31,7 @@ pub(super) enum Slot {
     Shared(Arc<Page>),
     /// The thread's own copy of a page from which a byte was loaded.
     Own(Box<StoredPage>),
-    /// The thread's own copy of a page from which no byte was loaded so far, and which may have no right to it.
+    /// The thread's own copy of a page from which no byte was loaded so far, and which may not be readable.
     Hidden {
         /// Whether a byte was taken.
         taken: bool,
@@ -57,9 +57,9 @@ fn byte_at(value: u32, k: u32) -> u8
     ((value >> (8 * k)) & 0xff) as u8
 }
 
-/// The word that stands in a page from an offset on, least byte first.
+/// The word in a page from an offset on, least byte first.
 ///
-/// It isn't forced into its callers: so it is simplified by itself first, and its four reads become one.
+/// Inlining isn't forced, so that this function is simplified by itself first, and its four reads become one.
 #[inline]
 #[tactic(auto, unfolding(memory_spec::specs::Access::number_in))]
 fn word_at(page: &Page, offset: usize) -> u32
@@ -73,7 +73,7 @@ fn word_at(page: &Page, offset: usize) -> u32
         + (u32::from(bytes[offset + 3]) << 24)
 }
 
-/// The number that stands in a page from an offset on, least byte first.
+/// The number in a page from an offset on, least byte first.
 #[inline(always)]
 #[tactic(auto, unfolding(memory_spec::specs::Access::number_in))]
 fn number_at(page: &Page, offset: usize, size: Size) -> u32
@@ -127,8 +127,8 @@ fn mark_number(mask: &mut Mask, offset: usize, size: Size)
     }
 }
 
-/// Stores the lowest bytes of a value at an offset: first all bytes and then all marks, which is
-/// faster than by turns.
+/// Stores the lowest bytes of a value at an offset: first all bytes and then all marks, which is faster than to
+/// alternate.
 #[inline(always)]
 fn store_number(stored: &mut StoredPage, offset: usize, size: Size, value: u32)
     requires { offset + byte_count size ≤ PAGE_SIZE }
@@ -141,7 +141,7 @@ fn store_number(stored: &mut StoredPage, offset: usize, size: Size, value: u32)
 
 /// A copy of a page of the view, with the lowest bytes of a value stored at an offset.
 ///
-/// It stands apart from the store into a copy that there is, which is the common case.
+/// It is separate from the store into an existing copy, which is the common case.
 #[cold]
 #[inline(never)]
 fn own_copy(
@@ -172,7 +172,7 @@ fn push_read(view: &PageTable, slot: usize, pages: &mut Vec<ReadPage>) -> Result
     Ok(())
 }
 
-/// Gives an own copy to the deltas, if a byte was stored.
+/// Moves an own copy to the deltas, if a byte was stored.
 #[inline(never)]
 fn push_delta(
     alloc: Global,
@@ -211,7 +211,7 @@ impl Slot {
         }
     }
 
-    /// The number of an access to the page, where one was loaded from it before.
+    /// The number of an access to the page, if one was loaded from it before.
     #[inline(always)]
     #[tactic(auto, unfolding(crate::specs::Slots::slot_shared, crate::specs::Slots::slot_bytes, crate::specs::Slots::slot_taken))]
     pub(super) fn held_number(&self, access: Access) -> Option<u32>
@@ -232,7 +232,7 @@ impl Slot {
     ///
     /// # Errors
     ///
-    /// An error where the page has as many holders as can be counted; nothing changes then.
+    /// An error if the page has as many holders as can be counted; nothing changes then.
     #[tactic(auto, unfolding(crate::specs::Slots::slot_shared, crate::specs::Slots::slot_bytes, crate::specs::Slots::slot_marks, crate::specs::Slots::slot_taken))]
     pub(super) fn take(&mut self, view: &PageTable, access: Access) -> Result<u32, AllocError>
         requires within { IsWithin access (length view.now) }
@@ -262,11 +262,12 @@ impl Slot {
         }
     }
 
-    /// Lets loads find the page, which may be read: by a share of the view's, or as the own copy. So a byte was taken.
+    /// Lets later loads find the page, which may be read: a share of the view's page, or the own copy. A byte counts as
+    /// taken.
     ///
     /// # Errors
     ///
-    /// An error where the page has as many holders as can be counted; nothing changes then.
+    /// An error if the page has as many holders as can be counted; nothing changes then.
     #[tactic(auto, unfolding(crate::specs::Slots::slot_shared, crate::specs::Slots::slot_bytes, crate::specs::Slots::slot_marks, crate::specs::Slots::slot_taken))]
     fn show(&mut self, view: &PageTable, slot: usize) -> Result<(), AllocError>
         requires within { slot < length view.now }
@@ -310,7 +311,7 @@ impl Slot {
         number
     }
 
-    /// Stores the lowest bytes of a value into the own copy. Whether there is one; else nothing changes.
+    /// Stores the lowest bytes of a value into the own copy. Returns whether there is one; if not, nothing changes.
     #[inline(always)]
     #[tactic(auto, unfolding(crate::specs::Slots::slot_shared, crate::specs::Slots::slot_bytes, crate::specs::Slots::slot_marks, crate::specs::Slots::slot_taken))]
     pub(super) fn store_again(&mut self, access: Access, value: u32) -> bool
@@ -335,7 +336,7 @@ impl Slot {
     ///
     /// # Errors
     ///
-    /// An error where the host's memory ran out; nothing changes then.
+    /// An error if the host's memory ran out; nothing changes then.
     #[tactic(auto, unfolding(crate::specs::Slots::slot_shared, crate::specs::Slots::slot_bytes, crate::specs::Slots::slot_marks, crate::specs::Slots::slot_taken))]
     pub(super) fn store(
         &mut self,
@@ -370,7 +371,8 @@ impl Slot {
         Ok(())
     }
 
-    /// Takes a byte of the slot's page, to run its instructions, unless it has the thread's own stores.
+    /// Takes a byte of the slot's page, to run its instructions, and returns true; changes nothing and returns false if
+    /// the page has the thread's own stores.
     #[inline(always)]
     #[tactic(auto, unfolding(crate::specs::Slots::slot_shared, crate::specs::Slots::slot_bytes, crate::specs::Slots::slot_marks, crate::specs::Slots::slot_taken))]
     pub(super) fn enter(&mut self) -> bool
@@ -405,7 +407,7 @@ impl Slot {
         Ok(())
     }
 
-    /// Gives the own copy to the deltas, if a byte was stored. Which page the view has counts for nothing.
+    /// Moves the own copy to the deltas, if a byte was stored. The view's page doesn't matter.
     #[inline(always)]
     #[tactic(auto, unfolding(crate::specs::Slots::slot_bytes, crate::specs::Slots::slot_marks))]
     pub(super) fn give_delta(

@@ -17,24 +17,24 @@ use std::alloc::{AllocError, Global};
 use std::marker::Model;
 use std::mem;
 
-/// How many slots are looked at in one go for one that was touched.
+/// How many slots are checked at once in the search for a touched one.
 const BLOCK: usize = 32;
 
-/// For how many touched slots there is room at first.
+/// How many touched slots there is room for at first.
 const ROOM: usize = 16;
 
-/// For how many of the first places their slot is listed.
+/// How many of the first places have their slot listed.
 const LISTED: usize = 16;
 
 /// The slots of a thread's memory. A thread touches few pages, and only what it touched is kept. A clause sees the list
 /// of all slots.
 #[derive(Drop)]
 pub(super) struct Slots {
-    /// For each slot where it is held, or 0 where it wasn't touched.
+    /// For each slot its place in `held`, or 0 if it wasn't touched.
     places: Vec<u16>,
-    /// The touched slots; at place 0 one that wasn't touched, which stands for all others.
+    /// The touched slots. At place 0 is an untouched one, which represents all others.
     held: Vec<Slot>,
-    /// The slot of each of the first places but place 0, so that not all slots are looked at if few were touched.
+    /// The slot of each of the first places except place 0, so that not all slots are searched if few were touched.
     listed: [usize; LISTED],
 }
 
@@ -93,7 +93,7 @@ fn is_before(slot: usize, found: Option<usize>) -> bool
     }
 }
 
-/// The least slot from this one on among those of the places from 1 on below a count.
+/// The least slot, from this one on, among the slots of the places from 1 up to a count.
 fn least_listed(listed: &[usize; LISTED], count: usize, from: usize) -> Option<usize>
     requires { (0 < count) × (count ≤ LISTED) }
     ensures { FindsLeast listed.now count from result }
@@ -131,7 +131,7 @@ fn list(listed: &mut [usize; LISTED], place: usize, slot: usize)
 ///
 /// # Errors
 ///
-/// An error where the host's memory ran out, or 65,535 slots were touched.
+/// An error if the host's memory ran out, or 65,535 slots were touched.
 #[cold]
 #[inline(never)]
 fn make_place(
@@ -154,11 +154,11 @@ fn make_place(
     Ok(place)
 }
 
-/// The place of a slot that is to be touched; it gets one if it has none.
+/// The place of a slot that is to be touched. A slot without a place gets one.
 ///
 /// # Errors
 ///
-/// An error where the host's memory ran out.
+/// An error if the host's memory ran out, or 65,535 slots were touched.
 #[inline(always)]
 fn place_for(
     places: &mut [u16],
@@ -177,11 +177,11 @@ fn place_for(
 }
 
 impl Slots {
-    /// So many slots, none of which was touched.
+    /// So many slots, all untouched.
     ///
     /// # Errors
     ///
-    /// An error where the host's memory ran out.
+    /// An error if the host's memory ran out.
     pub(super) fn new(alloc: Global, count: usize) -> Result<Slots, AllocError>
         ensures { IfOk result (λ slots. slots ≡ replicate count untouched) }
     {
@@ -234,7 +234,7 @@ impl Slots {
         self.at(slot).add_read(view, slot, pages)
     }
 
-    /// Gives the own copy in a slot to the deltas, if a byte was stored. The slot is then one that wasn't touched.
+    /// Moves the own copy in a slot to the deltas, if a byte was stored. The slot is then untouched.
     #[inline(always)]
     pub(super) fn give_delta(
         &mut self,
@@ -255,7 +255,7 @@ impl Slots {
     }
 }
 
-/// The number of an access, where one was loaded from its page before.
+/// The number of an access, if one was loaded from its page before.
 #[inline(always)]
 pub(super) fn held_number(slots: &Slots, access: Access) -> Option<u32>
     requires { IsWithin access (length slots.now) }
@@ -269,8 +269,8 @@ pub(super) fn held_number(slots: &Slots, access: Access) -> Option<u32>
 ///
 /// # Errors
 ///
-/// An error where the host's memory ran out, or the view's page has as many holders as can be counted; nothing changes
-/// then.
+/// An error if the host's memory ran out, 65,535 slots were touched, or the view's page has as many holders as can be
+/// counted; nothing changes then.
 pub(super) fn take(view: &PageTable, slots: &mut Slots, access: Access) -> Result<u32, AllocError>
     requires within { IsWithin access (length slots.old) }
     requires over { IsOver view.now slots.old }
@@ -293,7 +293,7 @@ pub(super) fn take(view: &PageTable, slots: &mut Slots, access: Access) -> Resul
 ///
 /// # Errors
 ///
-/// An error where the host's memory ran out; nothing changes then.
+/// An error if the host's memory ran out, or 65,535 slots were touched; nothing changes then.
 pub(super) fn fetch(view: &PageTable, slots: &mut Slots, access: Access) -> Result<u32, AllocError>
     requires within { IsWithin access (length slots.old) }
     requires over { IsOver view.now slots.old }
@@ -328,7 +328,7 @@ pub(super) fn store_again(slots: &mut Slots, access: Access, value: u32) -> bool
 ///
 /// # Errors
 ///
-/// An error where the host's memory ran out; nothing changes then.
+/// An error if the host's memory ran out, or 65,535 slots were touched; nothing changes then.
 pub(super) fn store(
     alloc: Global,
     view: &PageTable,

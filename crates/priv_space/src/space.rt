@@ -16,9 +16,9 @@ use std::alloc::{AllocError, Global};
 use std::marker::Model;
 use std::sync::Arc;
 
-/// A view that a thread works on, with its own stores laid over it. It shares the view, takes a share of
-/// a page at the first load from it, and copies a page when it first stores to it; the pages that
-/// it doesn't touch cost it no share. A clause sees a `Workspace` of `memory_spec`.
+/// A view that a thread works on, with the thread's own stores applied. It shares the view, takes a share of a page at
+/// the first load from it, and copies a page at the first store to it. Untouched pages cost no share. A clause sees a
+/// `Workspace` of `memory_spec`.
 #[derive(Drop)]
 pub struct Space {
     alloc: Global,
@@ -40,7 +40,7 @@ impl Model for Space {
     ghost invariant = { λ s. Fits (workspace_of s).map (workspace_of s).view s.slots };
 }
 
-/// The slot of an address, and what its page permits. None exactly where no page has it.
+/// The slot of an address, and what its page permits. None exactly if no page has it.
 #[inline(always)]
 #[tactic(auto, unfolding(memory_spec::specs::Pages::permission_at))]
 fn permitted(pages: &PageMap, address: u32) -> Option<(usize, Perm)>
@@ -129,13 +129,13 @@ impl Mem for Space {
 }
 
 impl Space {
-    /// Loads where the slot of the page doesn't say that it may be read: the first time, where it may not, or where the
+    /// Loads if the slot of the page doesn't show that it may be read: the first time, if it may not be read, or if the
     /// map doesn't list it.
     ///
     /// # Errors
     ///
-    /// `Access` exactly where the page isn't mapped or may not be read; `NoMemory` where the host has no memory left.
-    /// Nothing changes then.
+    /// `Access` exactly if the page isn't mapped or may not be read; `NoMemory` if the host has no memory left. Nothing
+    /// changes then.
     #[cold]
     #[inline(never)]
     #[tactic(auto, unfolding(memory_spec::specs::Access::loaded, memory_spec::specs::Access::number_at))]
@@ -160,13 +160,13 @@ impl Space {
         }
     }
 
-    /// Stores where the page has no own copy: the first time, where it may not be stored to, or where the map doesn't
+    /// Stores if no own copy of the page is found: the first time, if it may not be stored to, or if the map doesn't
     /// list it.
     ///
     /// # Errors
     ///
-    /// `Access` exactly where the page isn't mapped or may not be written; `NoMemory` where the host has no memory
-    /// left. Nothing changes then.
+    /// `Access` exactly if the page isn't mapped or may not be written; `NoMemory` if the host has no memory left.
+    /// Nothing changes then.
     #[cold]
     #[inline(never)]
     #[tactic(auto, unfolding(memory_spec::specs::Access::may_store))]
@@ -194,7 +194,7 @@ impl Space {
     ///
     /// # Errors
     ///
-    /// An error where the host's memory ran out.
+    /// An error if the host's memory ran out.
     pub fn new(
         alloc: Global,
         view: &Arc<PageTable>,
@@ -218,7 +218,7 @@ impl Space {
     ///
     /// # Errors
     ///
-    /// An error where the host's memory ran out.
+    /// An error if the host's memory ran out, or a page has as many holders as can be counted.
     pub fn reads(&self) -> Result<Reads, AllocError>
         ensures { IfOk result (λ reads. reads ≡ reads_from 0 self.now.taken self.now.view) }
     {
@@ -231,11 +231,11 @@ impl Space {
         Ok(Reads::new(pages))
     }
 
-    /// The stored bytes. The own copies are handed over, and no byte is copied.
+    /// The stored bytes. The own copies move into them.
     ///
     /// # Errors
     ///
-    /// An error where the host's memory ran out.
+    /// An error if the host's memory ran out.
     pub fn into_delta(self) -> Result<Delta, AllocError>
         ensures { IfOk result (λ delta. delta ≡ delta_from 0 self.stored self.memory) }
     {

@@ -1,4 +1,4 @@
--- When a round goes on as its history did, but for some pages.
+-- When a round continues as its history did, except for some pages.
 use Rattle.std.specs.Prelude.{◌≡◌, ℕ, ⊤, Bool, true, false, not, ◌&&◌, List, [], ◌∷◌, length, Option, Some, None, is_none, option_map, slice_get, slice_index_or, slice_set, Vec}
 use Rattle.std.specs.Global.{Global}
 use Rattle.isa_spec.specs.Registers.{same_registers}
@@ -19,7 +19,7 @@ use Rattle.round_spec.specs.Replaying.{HasReused}
 abbrev pub is_marked : List Bool → ℕ → Bool
 is_marked marks slot = slice_index_or marks slot false
 
--- A machine goes on as an older one did: page map, fuel, objects and threads are the same, and so are the pages that
+-- A machine continues as an older one did: page map, fuel, objects and threads are the same, and so are the pages that
 -- aren't marked, in shared memory and in the view of each ready thread.
 pub record IsLike (marks : List Bool) (old m : Machine) : Type 0 where
   pub frame : m.frame ≡ old.frame
@@ -34,8 +34,8 @@ pub record IsLike (marks : List Bool) (old m : Machine) : Type 0 where
       (u p : ℕ) → is_ready (hart_of old u).status ≡ true → is_marked marks p ≡ false
       → page_of (hart_of m u).view p ≡ page_of (hart_of old u).view p
 
--- A round goes on as a history did that may be run and holds together: each thread has made as many steps as in the
--- history's machine after as many steps, and unless that has ended, the round's machine is like it.
+-- A round continues as a history did, which may be run and is coherent. Each thread has made as many steps as in the
+-- history's machine after as many steps as the round's. Unless that machine has ended, the round's is like it.
 pub record GoesOnAs (h : History) (marks : List Bool) (w : RoundState) : Type 0 where
   pub valid : IsSetup h.setup
   pub coherent : is_coherent h ≡ true
@@ -44,7 +44,7 @@ pub record GoesOnAs (h : History) (marks : List Bool) (w : RoundState) : Type 0 
       is_none (machine_at h (length w.records)).ending ≡ true
       → IsLike marks (machine_at h (length w.records)) w.machine
 
--- The same of the history that a round goes by, where marks are kept.
+-- The same for the history that a round is based on, if marks are kept.
 abbrev pub IsAsMarked : RoundState → Option (Vec Bool Global) → Type 0
 IsAsMarked w None = ⊤
 IsAsMarked w (Some marks) = (h : History) → w.past ≡ Some h → GoesOnAs h marks.items w
@@ -58,8 +58,8 @@ abbrev pub AreClean : Option (Vec Bool Global) → Type 0
 AreClean None = ⊥
 AreClean (Some marks) = IsClean marks.items
 
--- What the marks of a round say: it goes on as its history did, where marks are kept; and as long as it has only reused
--- its own setup's history, which holds together, they are kept and no page is marked.
+-- What the marks of a round say. If marks are kept, it continues as its history did. As long as it has only reused a
+-- coherent history of its own setup, they are kept and no page is marked.
 pub record IsAsBefore (w : RoundState) (marks : Option (Vec Bool Global)) : Type 0 where
   pub marked : IsAsMarked w marks
   pub clean : (h : History) → is_coherent h ≡ true → HasReused h w → AreClean marks
@@ -79,7 +79,8 @@ abbrev pub all_unmarked : List Bool → List ReadPage → Bool
 all_unmarked marks [] = true
 all_unmarked marks (r ∷ reads) = not (is_marked marks r.slot) && all_unmarked marks reads
 
--- An executed step is in the place of a history's record: that is of the same thread, and asks for the same.
+-- An executed step is in the place of a history's record: that is of the same thread, and ends with the same call or
+-- the same end.
 pub record IsInPlace (past : Option History) (place : ℕ) (rec : Record) : Type 0 where
   pub history : History
   pub goes_by : past ≡ Some history
@@ -88,8 +89,8 @@ pub record IsInPlace (past : Option History) (place : ℕ) (rec : Record) : Type
   pub thread : rec.thread ≡ record_there.thread
   pub ask : ask_of rec ≡ ask_of record_there
 
--- Marks after an executed step in the place of a history's record: those before, if there were any, with the pages that
--- the step or the record writes.
+-- Marks after an executed step in the place of a history's record: those before, with the pages marked too that the
+-- step or the record writes.
 pub record AreMarksAfter (past : Option History) (place : ℕ) (rec : Record) (old : Option (Vec Bool Global))
     (after : List Bool) : Type 0 where
   pub marks : List Bool
@@ -97,7 +98,7 @@ pub record AreMarksAfter (past : Option History) (place : ℕ) (rec : Record) (o
   pub in_place : IsInPlace past place rec
   pub after_both : after ≡ marked (marked marks (written_slots in_place.record_there)) (written_slots rec)
 
--- The same where there may be none.
+-- The same, if there are any.
 abbrev pub MayBeMarks : Option History → ℕ → Record → Option (Vec Bool Global) → Option (Vec Bool Global) → Type 0
 MayBeMarks past place rec old None = ⊤
 MayBeMarks past place rec old (Some after) = AreMarksAfter past place rec old after.items
@@ -107,7 +108,7 @@ pub record IsNext (w : RoundState) (t : ℕ) (r : Record) : Type 0 where
   pub ready : is_ready (hart_of w.machine t).status ≡ true
   pub fit : fits_next w.past w.machine t ≡ same_registers r.start (hart_of w.machine t).regs
 
--- A thread's next step is the next one of its own setup's history, which holds together and of which a round has only
+-- A thread's next step is the next one in a coherent history of the round's own setup, of which the round has only
 -- reused what came before.
 pub record IsRepeated (w : RoundState) (t : ℕ) : Type 0 where
   pub history : History

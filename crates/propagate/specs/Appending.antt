@@ -1,4 +1,4 @@
--- What it is for a record to be applied, and its entry appended with it.
+-- How a record is applied, and appended with its entry.
 use Rattle.std.specs.Prelude.{◌≡◌, Bool, List, [], ◌∷◌, ◌++◌}
 use Rattle.thunk_spec.specs.Record.{Record}
 use Rattle.machine_spec.specs.Machine.{Machine}
@@ -14,7 +14,7 @@ pub record Trail : Type 0 where
 abbrev pub trail : Machine → List Entry → List Record → Trail
 trail machine schedule records = record { machine = machine; schedule = schedule; records = records }
 
--- A record was applied, and is behind the others with its entry.
+-- A record was applied, and was appended with its entry.
 pub record Appends (r : Record) (reused : Bool) (old new : Trail) : Type 0 where
   pub machine : new.machine ≡ apply old.machine r
   pub schedule : new.schedule ≡ old.schedule ++ record { thread = r.thread; reused = reused } ∷ []

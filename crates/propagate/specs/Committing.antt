@@ -23,12 +23,12 @@ pub record CanCommit (w : RoundState) (frame : Frame) (r : Record) : Type 0 wher
 abbrev pub IsOfStep : RoundState → Record → Type 0
 IsOfStep w r = is_in_flight w r.thread ≡ true → r ≡ record_of w.machine r.thread
 
--- How long the schedule of a round was when a thread was taken, or is if the thread isn't in flight.
+-- How many entries the schedule of a round had when a thread was taken, or has now if the thread isn't in flight.
 abbrev pub picked_at : RoundState → ℕ → ℕ
 picked_at w t = if is_in_flight w t then taken_when w t else length w.schedule
 
--- What comes of committing a run: where it can be, it is done; where it can't, the run is handed back and its thread is
--- no longer out; and where it can be but memory ran out, the run is handed back and the round is as before.
+-- What comes of committing a run. If it can be committed, it is. If it can't, it is returned, and its thread is no
+-- longer in flight. If it can be but memory ran out, it is returned, and the round is as before.
 abbrev pub Commits : RoundState → Run → Committed → RoundState → Type 0
 Commits old run Done new =
     CanCommit old (arc_value run.frame) (arc_value run.rec) × (new ≡ happens old (Commit (arc_value run.rec).thread))
@@ -44,7 +44,7 @@ entries_of Done = 1
 entries_of (Stale back) = 0
 entries_of (Memory back) = 0
 
--- A round of the same setup that goes by the same history, with so many entries more.
+-- A round of the same setup, based on the same history, with so many more entries.
 pub record GoesOn (n : ℕ) (old new : RoundState) : Type 0 where
   pub setup : new.setup ≡ old.setup
   pub past : new.past ≡ old.past

@@ -1,4 +1,4 @@
--- What a round in code keeps beside what is seen of it.
+-- What a round in code keeps besides what clauses see of it.
 use Rattle.std.specs.Prelude.{◌≡◌, ◌≤◌, ◌*◌, ℕ, ⊤, Bool, true, false, List, All, length, Option, Some, None, is_some, Vec}
 use Rattle.std.specs.Global.{Global}
 use Rattle.machine_spec.specs.Setup.{Setup, IsSetup, first, map_of}
@@ -14,24 +14,23 @@ use Rattle.propagate.specs.declared.versions.Versions.{Versions}
 use Rattle.propagate.specs.Alike.{IsAsBefore}
 use Rattle.propagate.specs.Versions.{AreRight}
 
--- What a setup goes by has its page map, if it goes by anything.
+-- The history that a round of a setup is based on, if there is one, has the setup's page map.
 abbrev pub IsOfMap : Option History → Setup → Type 0
 IsOfMap None setup = ⊤
 IsOfMap (Some h) setup = map_of h.setup ≡ map_of setup
 
--- A round on the page map of its setup: where the records that it goes by have their slots in that map, so have its
--- own.
+-- A round on the page map of its setup: if the records of its history have their slots in that map, so have its own.
 pub record IsOnMap (w : RoundState) : Type 0 where
   pub frame : w.machine.frame.map ≡ map_of w.setup
   pub mapped : All (IsMappedIn (length (map_of w.setup))) (past_records w.past) → IsMapped (history_of w)
 
--- The machine of a round is the one that the records of its entries leave, each of which fits where it is applied.
+-- The machine of a round is the one after the records of its entries, each of which fits where it is applied.
 pub record IsApplied (w : RoundState) : Type 0 where
   pub machine : w.machine ≡ applied_from (first w.setup) w.records
   pub can : can_apply_from (first w.setup) w.records ≡ true
 
--- What holds of every round: its setup may be run, its machine has the page map and the fuel of it, it is in order,
--- counts right, and is where its schedule leads.
+-- What holds of every round: its setup may be run, its machine has the setup's page map and fuel, it is in order, its
+-- counts are right, and it is where its schedule leads.
 pub record IsValid (w : RoundState) : Type 0 where
   pub setup : IsSetup w.setup
   pub framed : w.machine.frame ≡ (first w.setup).frame
@@ -39,12 +38,12 @@ pub record IsValid (w : RoundState) : Type 0 where
   pub counted : IsCounted w
   pub by_schedule : IsBySchedule w
 
--- What the steps of a history do, whose records are those of a run.
+-- The facts of a history, whose records are those of a run: what its steps do.
 pub record AreFactsOf (past : Option History) (facts : List Fact) : Type 0 where
   pub same : facts ≡ past_facts past
   pub of_run : AreOfRun (past_records past)
 
--- This is known; and it is right where anything is.
+-- The facts are known; and they are right if they are known.
 abbrev pub IsKnown : Option History → Option (List Fact) → Type 0
 IsKnown past None = ⊥
 IsKnown past (Some facts) = AreFactsOf past facts
@@ -53,26 +52,27 @@ abbrev pub IsRight : Option History → Option (List Fact) → Type 0
 IsRight past None = ⊤
 IsRight past (Some facts) = AreFactsOf past facts
 
--- What is known after it was found if that was needed.
+-- The facts that are known after they were found, if they were needed.
 abbrev pub IsFound : Bool → Option History → Option (List Fact) → Option (List Fact) → Type 0
 IsFound true past before facts = IsKnown past facts
 IsFound false past before facts = facts ≡ before
 
--- Nobody is in flight, and marks are kept: the round goes on as its history did.
+-- No thread is in flight, and marks are kept: the round continues as its history did.
 pub record IsInStep (w : RoundState) (marks : Option (Vec Bool Global)) : Type 0 where
   pub nobody : w.in_flight ≡ none_in_flight
   pub marked : is_some marks ≡ true
 
--- What the steps of a round's history do is known, or the round goes on as that history did with nobody in flight.
+-- What the steps of a round's history do is known, or the round continues as that history did and no thread is in
+-- flight.
 abbrev pub KnowsEnough : RoundState → Option (Vec Bool Global) → Option (List Fact) → Type 0
 KnowsEnough w marks None = IsInStep w marks
 KnowsEnough w marks (Some facts) = AreFactsOf w.past facts
 
--- A round that is in order, counts right and is where its schedule and its records lead, with the page map and the fuel
--- of its setup; and for each entry it is kept when its thread was picked. With it stand the sum of the counts of its
--- executed entries; what the steps of its history do, unless it goes on as that did with nobody in flight; while it
--- goes on as that did, marks on the pages that may differ; and after that which versions of the history's pages its
--- pages are.
+-- A round that is in order, has right counts and is where its schedule and its records lead, with the page map and the
+-- fuel of its setup. For each entry it has when its thread was picked. Kept with it are the sum of the counts of its
+-- executed entries; what the steps of its history do, unless it continues as that did and no thread is in flight; while
+-- it continues as that did, marks on the pages that may differ; and after that, which versions of the history's pages
+-- its pages are.
 pub record IsConsistent (w : RoundState) (instructions : ℕ) (facts : Option (List Fact))
     (marks : Option (Vec Bool Global)) (versions : Option Versions) : Type 0
   where

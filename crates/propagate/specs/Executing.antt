@@ -14,13 +14,13 @@ executed_by w = executed_instructions w.schedule w.records
 abbrev pub Costs : ℕ → RoundState → ℕ → RoundState → Type 0
 Costs before old now new = now + executed_by old ≡ before + executed_by new
 
--- While a round replays a history that holds together, a counter of compared pages stays as it is.
+-- While a round replays a coherent history, a counter of compared pages stays as it is.
 abbrev pub Spares : ℕ → RoundState → ℕ → RoundState → Type 0
 Spares before old now new =
     (h : History) → is_coherent h ≡ true → IsReplaying h old → IsReplaying h new × (now ≡ before)
 
--- A round on the way to the one after some picks, with so many left; a counter of turns rose from where it was by what
--- the entries so far executed; and one of compared pages stays if the round replays its history.
+-- A round on the way to the one after some picks, with so many picks remaining. A counter of turns rose by what the
+-- entries so far executed, and one of compared pages stays as it is if the round replays its history.
 pub record IsPartWay (left : ℕ) (after begun w : RoundState) (before now compared_before compared : ℕ) : Type 0 where
   pub rest : after_picks left w ≡ after
   pub cost : Costs before begun now w

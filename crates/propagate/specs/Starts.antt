@@ -1,4 +1,4 @@
--- What of an input is on its pages.
+-- Which bytes of an input are on its pages.
 use Rattle.std.specs.Prelude.{◌≡◌, ℕ, ◌+◌, ◌-◌, ◌*◌, min, Bool, false, List, length}
 use Rattle.std.specs.Simd.Lanes.{chunk}
 use Rattle.propagate.specs.Alike.{is_marked}
@@ -8,7 +8,7 @@ abbrev pub part_of : List ℕ → ℕ → List ℕ
 part_of input k =
     chunk (min (length input) (4096 * k)) (min (length input) (4096 * k + 4096) - min (length input) (4096 * k)) input
 
--- Marks of as many pages: each page that was marked is marked.
+-- Marks on as many pages: each page that was marked is marked.
 pub record HasMore (old new : List Bool) : Type 0 where
   pub count : length new ≡ length old
   pub before : (p : ℕ) → is_marked new p ≡ false → is_marked old p ≡ false

@@ -1,5 +1,5 @@
--- Which versions of its history's pages the pages of a round are. Version n of a page is the page as the first n steps
--- of the history leave it.
+-- Which versions of its history's pages the pages of a round are. Version n of a page is the page after the first n
+-- steps of the history.
 use Rattle.std.specs.Prelude.{◌≡◌, ◌≤◌, ◌<◌, ℕ, suc, ◌+◌, ⊤, Bool, true, false, ◌&&◌, ◌==◌, nat_le, if◌then◌else◌, List, [], ◌∷◌, length, map, replicate, Option, Some, None, is_none, slice_get, slice_set, slice_index, Box}
 use Rattle.std.specs.Global.{Global}
 use Rattle.guest_call.specs.declared.thread_number.TheConstants.{THREADS}
@@ -35,8 +35,8 @@ is_by (Some at) given = nat_le at given
 abbrev pub is_current : List ℕ → List ℕ → ℕ → ℕ → Bool
 is_current written viewed t p = is_by (slice_get written p) (slice_index viewed t)
 
--- When a thread was given its view, after a step of a thread that left this machine: of one that isn't ready it is when
--- it can be given its next view. A thread that is created is the next one.
+-- When a thread was given its view, after a step of a thread that resulted in this machine: of one that isn't ready,
+-- when it can be given its next view. A created thread gets the next number.
 abbrev pub viewed_after : Machine → ℕ → ℕ → ℕ → ℕ → ℕ
 viewed_after m t u before now =
     if nat_le u (length m.harts)
@@ -44,8 +44,8 @@ viewed_after m t u before now =
     else before
 
 -- Times of a machine after so many steps: unless it has ended, a page that is current in the view of a ready thread is
--- the same there as in shared memory; a ready thread was given its view by now, and each other gets its next one after
--- now.
+-- the same there as in shared memory; a ready thread was given its view by now, and any other thread gets its next one
+-- after now.
 pub record AreTimes (m : Machine) (steps : ℕ) (written viewed : List ℕ) : Type 0 where
   pub current :
       (u p : ℕ) → is_none m.ending ≡ true → is_ready (hart_of m u).status ≡ true → is_current written viewed u p ≡ true
@@ -79,7 +79,7 @@ pub record IsStepOf (h : History) (place : ℕ) (r : Record) (s : StepVersions) 
   pub memory :
       (p x : ℕ) → stored p ≡ Some x → page_of (machine_at h place).memory p ≡ page_of (machine_at h x).memory p
 
--- The same of each step that both lists have.
+-- The same for each step that both lists have.
 pub record AreStepsOf (h : History) (steps : List StepVersions) : Type 0 where
   pub each :
       (place : ℕ) → (r : Record) → (s : StepVersions)
@@ -87,7 +87,7 @@ pub record AreStepsOf (h : History) (steps : List StepVersions) : Type 0 where
 
 -- ---- versions in a round
 
--- Pages of a machine whose versions are known: each is the page that so many first steps of the history leave.
+-- Pages of a machine whose versions are known: each is the page after so many first steps of the history.
 abbrev pub AreOldPages : History → Machine → List (Option ℕ) → Type 0
 AreOldPages h m pages =
     (p x : ℕ) → slice_get pages p ≡ Some (Some x) → page_of m.memory p ≡ page_of (machine_at h x).memory p
@@ -112,16 +112,16 @@ learned written viewed pages t (v ∷ read) =
     learned written viewed
     (if is_current written viewed t v.slot then with_known pages v.slot v.version else pages) t read
 
--- The versions after the step of a history is reused that leaves this version of the pages that it writes: a page is of
--- it if it was of the version that the step found.
+-- The versions after a step of a history is reused, by the version after that step: a page that the step writes is of
+-- this version if it was of the version that the step found; else its version is unknown.
 abbrev pub rewritten : List (Option ℕ) → ℕ → List PageVersion → List (Option ℕ)
 rewritten pages after [] = pages
 rewritten pages after (v ∷ written) =
     rewritten
     (slice_set pages v.slot (if is_of_version v.version (slice_get pages v.slot) then Some after else None)) after written
 
--- Versions after the record at a place of the history was reused, with which so many steps were made: before its thread
--- and others were given views.
+-- Versions after the record at a place of the history was reused, as the last of so many steps, before its thread and
+-- others were given views.
 pub record AreReused (old : Versions) (place : ℕ) (r : Record) (now : ℕ) (new : Versions) : Type 0 where
   pub step : StepVersions
   pub there : slice_get old.steps.items place ≡ Some step
@@ -162,7 +162,7 @@ pub record AreMadeAnew (old : Versions) (m : Machine) (r : Record) (now : ℕ) (
   pub executed : AreExecuted old r now made
   pub given : AreGiven m r.thread now made new
 
--- The same where there may be none.
+-- The same for versions that may be absent.
 abbrev pub MayBeMadeAgain : Option Versions → Machine → ℕ → Record → ℕ → Option Versions → Type 0
 MayBeMadeAgain old m place r now None = ⊤
 MayBeMadeAgain None m place r now (Some new) = ⊥
@@ -173,12 +173,12 @@ MayBeMadeAnew old m r now None = ⊤
 MayBeMadeAnew None m r now (Some new) = ⊥
 MayBeMadeAnew (Some old) m r now (Some new) = AreMadeAnew old m r now new
 
--- What is known of versions, where it is kept on the heap.
+-- The known versions, taken out of their box.
 abbrev pub unboxed : Option (Box Versions Global) → Option Versions
 unboxed None = None
 unboxed (Some versions) = Some versions.value
 
--- A history may be run and holds together, and a round's machine has its fuel and its number of pages.
+-- A history may be run and is coherent, and a round's machine has its fuel and its number of pages.
 pub record IsComparable (w : RoundState) (h : History) : Type 0 where
   pub valid : IsSetup h.setup
   pub coherent : is_coherent h ≡ true
@@ -194,7 +194,7 @@ pub record AreVersions (h : History) (w : RoundState) (v : Versions) : Type 0 wh
   pub times : AreTimes w.machine (length w.schedule) v.times.written.items v.times.viewed
   pub pages : AreOldPages h w.machine v.pages.items
 
--- The same where nothing need be known.
+-- The same, if anything is known.
 abbrev pub AreRight : RoundState → Option Versions → Type 0
 AreRight w None = ⊤
 AreRight w (Some v) = (h : History) → w.past ≡ Some h → AreVersions h w v
@@ -228,8 +228,8 @@ HasKnown v place t view reads =
     (k : ℕ) → (r : ReadPage) → slice_get reads k ≡ Some r → knows_read v place t k ≡ true
     → bytes_eq (page_of view r.slot) r.bytes ≡ true
 
--- How many of some read pages, of which the first has this place, aren't known: of those up to the first of these that
--- differs, with it.
+-- How many of some read pages, of which the first has this place, aren't known. Pages after the first unknown one that
+-- differs don't count.
 abbrev pub unknown_in : (ℕ → Bool) → ℕ → Memory → List ReadPage → ℕ
 unknown_in known k view [] = 0
 unknown_in known k view (r ∷ reads) =

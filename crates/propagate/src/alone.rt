@@ -36,11 +36,11 @@ fn run_step(alloc: Global, round: &mut Round, t: u8, turns: &mut Turns) -> Resul
 {
     let job = round.start(t)?;
     let run = execute(alloc, &job, turns)?;
-    // It ran by the round's own job, which stands as it was: nothing is compared.
+    // It ran by the round's own job, and the round hasn't changed since: nothing is compared.
     round.commit_executed(&run)
 }
 
-/// Follows one pick: what is picked is reused, or executed and committed, and shown. The answer is whether
+/// Follows one pick: reuses the picked step, or executes and commits it, and shows it to the gate. Returns whether
 /// anything was picked. The counter of turns rises by the instructions that were executed.
 fn follow_pick<G: Gate>(
     alloc: Global,
@@ -71,8 +71,8 @@ fn follow_pick<G: Gate>(
     }
 }
 
-/// Follows so many picks, one after the other, or fewer where nothing is picked any more. The counter of turns rises by
-/// the instructions that were executed.
+/// Follows `most` picks, one after the other, or fewer if nothing more is picked. The counter of turns rises by the
+/// instructions that were executed.
 fn follow_picks<G: Gate>(
     alloc: Global,
     round: &mut Round,
@@ -95,12 +95,12 @@ fn follow_picks<G: Gate>(
     Ok(())
 }
 
-/// The round of one worker, pick after pick until nothing is picked, of which each step is shown. It passes no gate
-/// before it executes a thunk. What `run_alone` promises of the round follows from its one clause on it.
+/// The round of one worker, pick after pick until nothing is picked. The gate is shown each step, and isn't entered
+/// before a thunk is executed. All that `run_alone` promises of the round follows from the clause `alone`.
 ///
 /// # Errors
 ///
-/// An error where the host's memory ran out; the counters may have risen, and are never lower.
+/// An error if the host's memory ran out; the counters may have risen, and are never lower.
 pub fn run_alone_shown<G: Gate>(
     alloc: Global,
     setup: Setup,
@@ -124,19 +124,18 @@ pub fn run_alone_shown<G: Gate>(
     Ok(round)
 }
 
-/// The round of one worker: step after step is picked, and reused, or executed and committed, until
-/// the round is finished. It has an end then, and nothing was discarded, by whatever history it goes. The
-/// counter of turns rises by the instructions of the executed steps, and the other one by the pages that are compared.
+/// The round of one worker: step after step is picked, and reused, or executed and committed, until the round is
+/// finished. With any history it then has an end, and nothing was discarded. The counter of turns rises by the
+/// instructions of the executed steps, and the other one by the pages that are compared.
 ///
-/// Where the round goes by a sound history, its schedule is the one of one worker, which is permitted
-/// and complete; it is at the machine from scratch, its marks are exact, and each entry was picked
-/// rightly. Where the setup is the history's own, the round is all reuse, and the counters stay as they are; that of
-/// compared pages does so by any history that holds together. No round executes again more than it must: if it works as
-/// the history did, it executes no more than its setup reaches.
+/// If the round is based on a sound history, its schedule is the one of one worker, which is permitted and complete,
+/// its machine is the one from scratch, its marks are exact, and each entry was picked rightly. If the setup is also
+/// the history's own, the round only reuses, and the counters stay as they are; that of compared pages does so with any
+/// coherent history of the setup. If a round works as its history did, it executes no more than its setup reaches.
 ///
 /// # Errors
 ///
-/// An error where the host's memory ran out; the counters may have risen, and are never lower.
+/// An error if the host's memory ran out; the counters may have risen, and are never lower.
 pub fn run_alone(
     alloc: Global,
     setup: Setup,

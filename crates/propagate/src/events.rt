@@ -30,11 +30,11 @@ use thunk_run::{Job, Run};
 pub enum Committed {
     /// It is an entry of the schedule, and its thread is no longer in flight.
     Done,
-    /// It can't be committed, and is handed back: the round is finished, the step ran on another page map
-    /// or with another fuel than the round's, its thread isn't in flight, or its record doesn't fit. Its
-    /// thread is no longer in flight; if it was, one step more was discarded.
+    /// It can't be committed, and is returned: the round is finished, the step ran on another page map or with another
+    /// fuel than the round's, its thread isn't in flight, or its record doesn't fit. Its thread is no longer in flight;
+    /// if it was, its step was discarded.
     Stale(Run),
-    /// The host's memory ran out. The round is as before, and the step is handed back.
+    /// The host's memory ran out. The round is as before, and the step is returned.
     Memory(Run),
 }
 
@@ -87,7 +87,7 @@ impl Round {
     ///
     /// # Errors
     ///
-    /// An error where the host's memory ran out; the round is then as before.
+    /// An error if the host's memory ran out; the round is then as before.
     #[tactic(auto, using(crate::proofs::Keeping::valid_consistent))]
     pub fn reuse(&mut self, t: u8) -> Result<(), AllocError>
         requires { can_reuse self.old t ≡ true }
@@ -125,7 +125,7 @@ impl Round {
     ///
     /// # Errors
     ///
-    /// An error where the host's memory ran out; the round is then as before.
+    /// An error if the host's memory ran out; the round is then as before.
     #[tactic(auto, using(crate::proofs::Keeping::valid_consistent))]
     pub fn take(&mut self, t: u8) -> Result<Job, AllocError>
         requires { can_take self.old t ≡ true }
@@ -144,7 +144,7 @@ impl Round {
         Ok(job)
     }
 
-    /// Whether an executed step can be committed, which ran with the round's page map and fuel.
+    /// Whether an executed step that ran with the round's page map and fuel can be committed.
     fn can_commit(&self, run: &Run) -> bool
         requires { arc_value run.now.frame ≡ (first self.now.setup).frame }
         ensures yes { OnTrue result
@@ -170,7 +170,7 @@ impl Round {
     ///
     /// # Errors
     ///
-    /// An error where the host's memory ran out.
+    /// An error if the host's memory ran out.
     pub(super) fn start(&self, t: u8) -> Result<Job, AllocError>
         requires { can_take self.now t ≡ true }
         ensures job { IfOk result (λ job. IsJobOf self.now.machine t job) }
@@ -184,7 +184,7 @@ impl Round {
     ///
     /// # Errors
     ///
-    /// An error where the host's memory ran out; the round is then as before.
+    /// An error if the host's memory ran out; the round is then as before.
     #[tactic(auto, using(crate::proofs::Keeping::valid_consistent))]
     pub(super) fn commit_executed(&mut self, run: &Run) -> Result<(), AllocError>
         requires { CanCommit (happens self.old (event.Take (arc_value run.now.rec).thread))
@@ -222,8 +222,8 @@ impl Round {
         Ok(())
     }
 
-    /// Commits an executed step, or says why it can't. To look whether it ran with the round's page map and fuel takes
-    /// longest of all.
+    /// Commits an executed step, or says why it can't. First compares the run's page map and fuel with the round's,
+    /// which takes longest.
     pub fn commit(&mut self, run: Run) -> Committed
         ensures does { Commits self.old run result self.new }
         ensures same { GoesOn (entries_of result) self.old self.new }
@@ -273,7 +273,7 @@ impl Round {
         !self.is_finished() && self.is_in_flight(run.rec.thread())
     }
 
-    /// Commits an executed step if it can be committed. Else its step is discarded, and the run is handed back.
+    /// Commits an executed step if it can be committed. Else its step is discarded, and the run is returned.
     fn commit_or_discard(&mut self, can: bool, run: Run) -> Committed
         requires yes { OnTrue can
             (CanCommit self.old (arc_value run.frame) (arc_value run.rec)) }

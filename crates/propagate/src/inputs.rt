@@ -1,5 +1,4 @@
-//! Marks on the pages that differ in the start memories of two inputs: those of the input and of its header, by its
-//! bytes.
+//! Marks on the pages of the input that differ in the start memories of two inputs, by the bytes of the inputs.
 
 ghost use Rattle.std.specs.Prelude.{◌≡◌, ◌<◌, ◌≤◌, ◌+◌, ℕ, false, length};
 ghost use Rattle.machine_spec.specs.Setup.{input_page};
@@ -10,7 +9,7 @@ ghost use Rattle.propagate.specs.Starts as starts;
 use super::marks::mark;
 use machine_spec::INPUT_PAGES;
 
-/// The bytes of an input that are on its page of this number.
+/// The bytes of an input that are on its page `k`.
 fn part_of(input: &[u8], k: usize) -> &[u8]
     requires { k < INPUT_PAGES }
     ensures { result.now ≡ starts.part_of input.now k }
@@ -20,7 +19,7 @@ fn part_of(input: &[u8], k: usize) -> &[u8]
     &input[start..end]
 }
 
-/// Marks a page of the input if it is another one in a second input.
+/// Marks page `k` of the input if it differs in a second input.
 fn mark_part(marks: &mut [bool], slot: usize, old: &[u8], new: &[u8], k: usize)
     requires number { k < INPUT_PAGES }
     requires there { slot < length marks.old }
@@ -33,7 +32,7 @@ fn mark_part(marks: &mut [bool], slot: usize, old: &[u8], new: &[u8], k: usize)
     mark(marks, slot);
 }
 
-/// Marks the pages of the input, the first of which has this slot, that are others in a second input.
+/// Marks the pages of the input that differ in a second input. The first page of the input has the slot `first`.
 pub fn mark_parts(marks: &mut [bool], first: usize, old: &[u8], new: &[u8])
     requires { first + INPUT_PAGES ≤ length marks.old }
     ensures more { HasMore marks.old marks.new }

@@ -1,7 +1,6 @@
-//! Rounds of a run: each step is taken from the records of an earlier run where its record fits, and
-//! executed where none does. One worker makes a round by itself; any number of them may, by the same
-//! events. Whatever happens, the round is the one that its definition tells, and where it goes by an
-//! honest history, it is at the machine from scratch, and its marks are exact.
+//! Rounds: each step is reused from the records of an earlier run if its record fits, and executed if none does. One
+//! worker makes a round by itself; any number of them may, by the same events. Whatever happens, the round is the one
+//! of its definition. If it is based on a sound history, its machine is the one from scratch, and its marks are exact.
 #![tactic(auto)]
 
 mod alone;

@@ -1,4 +1,4 @@
-//! Marks on the pages that may differ from those of the history that a round goes on as.
+//! Marks on the pages that may differ from the history's, while a round continues as its history did.
 
 ghost use Rattle.std.specs.Prelude.{◌≡◌, ◌<◌, ◌≤◌, ◌+◌, ℕ, true, false, is_some, Some, None, option_map, length, slice_get, slice_set, if◌then◌else◌, IfOk};
 ghost use Rattle.std.specs.Arc.{arc_value};
@@ -64,8 +64,8 @@ pub fn all_unmarked(marks: &[bool], reads: &[ReadPage]) -> bool
     true
 }
 
-/// The marks with more pages marked: that of the input's header, which has this slot, if a second input has another
-/// length, and each page of the input, behind it, that is another one in the second input.
+/// The marks with more pages marked: that of the input's header, which has the slot `header`, if a second input has
+/// another length, and each page of the input, behind it, that differs in the second input.
 fn with_input(marks: Vec<bool>, header: usize, old: &[u8], new: &[u8]) -> Vec<bool>
     requires { header + 1 + INPUT_PAGES ≤ length marks.items }
     ensures count { length result.items ≡ length marks.items }
@@ -113,9 +113,9 @@ fn is_same_program(old: &Setup, new: &Setup) -> bool
     old.fuel() == new.fuel() && old.elf() == new.elf()
 }
 
-/// Marks for a round of a setup that starts with this memory and goes by a history, which is coherent if it holds
-/// together; none where it can't go on as that did: the history doesn't hold together, or is of another program or
-/// fuel.
+/// Marks for a round of a setup that starts with this memory and is based on a history, if there is one; `coherent`
+/// says whether that is coherent. There are no marks if the round can't continue as a history did: there is none, it
+/// isn't coherent, or it is of another program or fuel.
 pub fn marks_at_start(
     alloc: Global,
     past: &Option<Arc<History>>,
@@ -137,7 +137,7 @@ pub fn marks_at_start(
     }
 }
 
-/// Whether the ECALLs at these registers make one call, with the same arguments.
+/// Whether the ECALLs at these registers make the same call, with the same arguments.
 fn is_same_call(old: &Regs, new: &Regs) -> bool
     ensures call { result ≡ true → call_at new.now ≡ call_at old.now }
     ensures some { result ≡ true → is_some (call_at old.now) ≡ true }
@@ -148,7 +148,7 @@ fn is_same_call(old: &Regs, new: &Regs) -> bool
         && Call::of(old.get(17), old.get(10), old.get(11)).is_some()
 }
 
-/// Whether two records are of one thread, and end with one call.
+/// Whether two records are of the same thread, and end with the same call.
 #[tactic(auto, using(crate::proofs::Alike::same_ask))]
 fn is_alike(old: &Record, new: &Record) -> bool
     ensures thread { result ≡ true → new.now.thread ≡ old.now.thread }
@@ -169,8 +169,8 @@ pub fn marks_if(marks: Option<Vec<bool>>, holds: bool) -> Option<Vec<bool>>
     if holds { marks } else { None }
 }
 
-/// Whether a round that keeps marks goes on as its history did with an executed step: the record in the step's place is
-/// of the same thread, and asks for the same.
+/// Whether a round that keeps marks continues as its history did with an executed step: the record in the step's place
+/// is of the same thread, and ends with the same call.
 pub fn is_in_place(
     marks: &Option<Vec<bool>>,
     past: &Option<Arc<History>>,
@@ -210,8 +210,8 @@ fn with_old(marks: Vec<bool>, past: &Option<Arc<History>>, place: usize) -> Vec<
     }
 }
 
-/// The marks after an executed step: if it is in the place of a history's record, with the pages that either writes,
-/// and else none.
+/// The marks after an executed step. If it is in the place of a history's record, the pages that either writes are
+/// marked too; else there are none.
 pub fn marks_after(
     marks: Option<Vec<bool>>,
     past: &Option<Arc<History>>,

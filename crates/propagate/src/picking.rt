@@ -76,7 +76,7 @@ fn leads(leader: Option<Candidate>, next: Candidate) -> bool
     }
 }
 
-/// How many steps a thread, which exists, has made; where it has ended, as many as a clock counts of it.
+/// How many steps a thread, which exists, has made; if it has ended, as many as a clock counts of it.
 fn made_by(core: &Core, t: u8, counted: u32) -> u32
     requires { t < length core.now.harts }
     ensures { nat_le counted result ≡ has_made core.now t counted }
@@ -87,7 +87,7 @@ fn made_by(core: &Core, t: u8, counted: u32) -> u32
     core.number(t)
 }
 
-/// By thread, how many steps it has made; where it has ended, as many as a clock counts of it.
+/// By thread, how many steps it has made; if it has ended, as many as a clock counts of it.
 fn made_for(core: &Core, clock: &Clock) -> [u32; THREADS]
     ensures long { length result ≡ THREADS }
     ensures made { (u : ℕ) → u < THREADS → nat_le (slice_index clock.now u) (slice_index result u)
@@ -131,8 +131,8 @@ impl Round {
         self.place(t) == self.schedule.len()
     }
 
-    /// Whether the record of the next step of thread `t`, which can be begun, fits where its registers are the
-    /// thread's: the round goes on as its history did, it comes next, and no page is marked that it read.
+    /// Whether the record of the next step of thread `t`, which can be started, fits if its registers are the thread's:
+    /// the round continues as its history did, the record comes next in it, and it read no marked page.
     fn reads_no_marked_page(&self, t: u8, rec: &Record) -> bool
         requires begins { can_begin self.now t ≡ true }
         requires exists { t < length self.now.machine.harts }
@@ -146,8 +146,8 @@ impl Round {
         }
     }
 
-    /// Whether the record of the next step of thread `t`, which can be begun, fits. Of its pages only those are
-    /// compared that aren't known to be what it read.
+    /// Whether the record of the next step of thread `t`, which can be started, fits. Compares only those of its pages
+    /// that aren't known to be what it read.
     fn fits_by_versions(&self, t: u8, rec: &Record, compared: &mut Compared) -> bool
         requires begins { can_begin self.now t ≡ true }
         requires exists { t < length self.now.machine.harts }
@@ -170,7 +170,7 @@ impl Round {
         }
     }
 
-    /// Whether the record of the next step of thread `t`, which can be begun, fits. Pages are compared only if one of
+    /// Whether the record of the next step of thread `t`, which can be started, fits. Pages are compared only if one of
     /// them may differ: none while the round repeats its history.
     fn has_fitting(&self, t: u8, compared: &mut Compared) -> bool
         requires begins { can_begin self.now t ≡ true }
@@ -197,8 +197,8 @@ impl Round {
         }
     }
 
-    /// Whether thread `t`, whose next step has this place in the history, is due: each thread has made the
-    /// steps that the clock of that place counts of it.
+    /// Whether thread `t`, whose next step has this place in the history, is due: each other thread has made the steps
+    /// that the clock of that place counts of it, or has ended; or the history has no such place.
     fn is_due_at(&self, graph: &Graph, t: u8, place: usize) -> bool
         requires facts { AreFactsOf self.now.past graph.now }
         requires place { place ≡ place_in self.now.past self.now.machine t }
@@ -224,8 +224,8 @@ impl Round {
         self.in_flight.iter().any(|flag| *flag)
     }
 
-    /// Whether the next step of thread `t` can be begun: the round isn't finished, and the thread is ready
-    /// and not in flight.
+    /// Whether the next step of thread `t` can be started: the round isn't finished, and the thread is ready and not in
+    /// flight.
     fn can_begin(&self, t: u8) -> bool
         ensures can { result ≡ can_begin self.now t }
         ensures valid { IsValid self.now }
@@ -265,7 +265,7 @@ impl Round {
         }
     }
 
-    /// The best of the free threads, where that of those below thread `t` is known.
+    /// The best of the free threads up to thread `t`, from the best of those below it.
     fn with_free(&self, leader: Option<Candidate>, t: u8) -> Option<Candidate>
         requires exists { t < length self.now.machine.harts }
         requires below { leader ≡ leader_of self.now (free_below self.now t) }
@@ -289,7 +289,7 @@ impl Round {
         leader
     }
 
-    /// The leaders, where those below thread `t` are known.
+    /// The leaders up to thread `t`, from those below it.
     fn with_thread(&self, graph: &Graph, found: Leaders, t: u8) -> Leaders
         requires facts { AreFactsOf self.now.past graph.now }
         requires exists { t < length self.now.machine.harts }
@@ -301,7 +301,7 @@ impl Round {
         }
         let next = self.candidate(t);
         let free = Some(better(found.free, next));
-        // A clock is looked at only where the thread would lead.
+        // The clock is looked at only if the thread would lead.
         if !leads(found.due, next) || !self.is_due_at(graph, t, next.place) {
             return Leaders {
                 due: found.due,
@@ -314,8 +314,8 @@ impl Round {
         }
     }
 
-    /// The leaders of all free threads. Looks at each thread once, at the clock of those alone that come
-    /// before all due ones so far, and compares no record.
+    /// The leaders of all free threads. Looks at each thread once, only at the clocks of those that come before all due
+    /// ones so far, and compares no record.
     fn all_leaders(&self, graph: &Graph) -> Leaders
         requires facts { AreFactsOf self.now.past graph.now }
         ensures { AreLeadersBelow self.now (length self.now.machine.harts) result }
@@ -330,7 +330,7 @@ impl Round {
         found
     }
 
-    /// The leaders of all free threads. Where the best of them is due, its clock alone is looked at.
+    /// The leaders of all free threads. If the best of them is due, looks only at its clock.
     fn leaders(&self, graph: &Graph) -> Leaders
         requires facts { AreFactsOf self.now.past graph.now }
         ensures { AreLeadersBelow self.now (length self.now.machine.harts) result }
@@ -344,7 +344,7 @@ impl Round {
         }
     }
 
-    /// The thread that is chosen by what the steps of the history do, if one is.
+    /// The thread that is chosen by the dependences of the history's steps, if one is.
     fn choice_among(&self, graph: &Graph) -> Option<u8>
         requires facts { AreFactsOf self.now.past graph.now }
         ensures { result ≡ choice_by self.now.past self.now.machine self.now.in_flight }
@@ -370,8 +370,9 @@ impl Round {
         }
     }
 
-    /// The thread that is chosen, if one is. No thread is looked at while the round goes on as its history did with
-    /// nobody in flight: the history's next step is due then, and comes first.
+    /// The thread that is chosen, if one is. If the graph isn't known, the round continues as its history did and no
+    /// thread is in flight: then the history's next step is due and comes first, and threads are looked at only after
+    /// its last step.
     fn choice(&self) -> Option<u8>
         requires going { is_finished self.now ≡ false }
         ensures { result ≡ choice_by self.now.past self.now.machine self.now.in_flight }
@@ -392,8 +393,8 @@ impl Round {
         !self.is_finished() && self.choice().is_some()
     }
 
-    /// What a worker may do next. Takes no memory, and compares the pages of one record at most: of none while the
-    /// round replays a history that holds together.
+    /// What a worker may do next. Allocates nothing, and compares the pages of at most one record: of none while the
+    /// round replays a coherent history.
     pub fn pick(&self, compared: &mut Compared) -> Pick
         ensures pick { result ≡ pick_of self.now }
         ensures stopped { self.now.stopped ≡ true → result ≡ pick.Over }

@@ -1,4 +1,4 @@
-//! What the change of its setup reaches of the history that a round goes by.
+//! Which steps of a round's history the change of its setup reaches.
 
 ghost use Rattle.std.specs.Prelude.{◌≡◌, ◌<◌, ◌≤◌, Bool, not, length, count_by, Some, IfOk};
 ghost use Rattle.std.specs.Str.{bytes_eq};
@@ -39,7 +39,7 @@ fn all_read_slots(alloc: Global, history: &History) -> Result<Vec<Vec<usize>>, A
     Ok(reads)
 }
 
-/// Whether a page of a memory is another in a second one, which may be shorter.
+/// Whether a page of a memory differs in a second one, which may be shorter.
 fn differs(old: &PageTable, new: &PageTable, slot: usize) -> bool
     requires { slot < length old.now }
     ensures { result ≡ not (bytes_eq (page_of old.now slot) (page_of new.now slot)) }
@@ -48,7 +48,7 @@ fn differs(old: &PageTable, new: &PageTable, slot: usize) -> bool
     slot >= new.len() || *page != *new.page(slot)
 }
 
-/// The slots of a memory's pages that are others in a second one.
+/// The slots of a memory's pages that differ in a second one.
 fn slots_that_differ(
     alloc: Global,
     old: &PageTable,
@@ -79,7 +79,7 @@ fn count_set(flags: &[bool]) -> u32
     flags.iter().filter(|flag| **flag).count() as u32
 }
 
-/// How many steps of a history, of which this is the graph, a setup in place of its own reaches.
+/// How many steps of a history with this graph are reached by a setup in place of its own.
 fn steps_reached(
     alloc: Global,
     history: &History,
@@ -96,11 +96,11 @@ fn steps_reached(
 }
 
 impl Round {
-    /// How many steps of the history that it goes by its setup reaches, and 0 where it goes by none.
+    /// How many steps of its history its setup reaches, and 0 if it has no history.
     ///
     /// # Errors
     ///
-    /// An error where the host's memory ran out.
+    /// An error if the host's memory ran out.
     pub fn reached(&self) -> Result<u32, AllocError>
         ensures { IfOk result (λ steps. steps ≡ reached_count self.now.past self.now.setup) }
     {

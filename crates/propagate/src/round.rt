@@ -1,4 +1,4 @@
-//! A round, and what it tells.
+//! A round, and what can be read of it.
 
 ghost use Rattle.std.specs.Prelude.{◌≡◌, ◌<◌, true, false, length, is_some, option_map, slice_get, Some, None, Decides, IfOk, OnOk, OnErr};
 ghost use Rattle.std.specs.Bool.{OnTrue};
@@ -25,12 +25,12 @@ use std::marker::Model;
 use std::sync::Arc;
 use thunk_record::Record;
 
-/// A round as it stands: what it started from and goes by, the machine, the steps so far with their records and with
-/// when each was picked, who is in flight and since when, and what was discarded. A clause sees a `RoundState` of
-/// `round_spec`. Beside it stand, while the round goes on as the history did, by slot, marks on the pages that may
-/// differ: records of other pages fit without a comparison; after that, which versions of the history's pages its own
-/// are, as far as that is known; and which steps of the history depend on which, unless the round goes on as the
-/// history did with nobody in flight: then the history's next step is due.
+/// A round so far: its setup, the history that it is based on, the machine, the steps with their records and with when
+/// each was picked, which threads are in flight and since when, and how many steps were discarded. A clause sees a
+/// `RoundState` of `round_spec`. While the round continues as the history did, it also has marks, by slot, on the pages
+/// that may differ: a record that read no marked page fits without a comparison of pages. After that it has, as far as
+/// it is known, which versions of the history's pages its own are. It also has which steps of the history depend on
+/// which, unless it continues as the history did and no thread is in flight: then the history's next step is due.
 #[derive(Drop)]
 pub struct Round {
     pub(super) setup: Setup,
@@ -74,7 +74,7 @@ impl Model for Round {
     ghost invariant = { λ r. IsConsistent (view r) r.instructions r.graph r.marks (unboxed r.versions) };
 }
 
-/// None of the threads is in flight.
+/// No thread is in flight.
 #[tactic(auto, unfolding(round_spec::specs::Rounds::none_in_flight))]
 fn none_in_flight() -> [bool; THREADS]
     ensures { result ≡ none_in_flight }
@@ -82,7 +82,7 @@ fn none_in_flight() -> [bool; THREADS]
     [false; THREADS]
 }
 
-/// For none of the threads a length is kept.
+/// No length of the schedule is kept for any thread.
 #[tactic(auto, unfolding(round_spec::specs::Rounds::nothing_taken))]
 fn nothing_taken() -> [u32; THREADS]
     ensures { result ≡ nothing_taken }
@@ -100,7 +100,7 @@ pub(super) fn graph_of(alloc: Global, past: &Option<Arc<History>>) -> Result<Gra
     }
 }
 
-/// Finds which steps of a history depend on which if that is needed, unless it is known.
+/// Finds which steps of a history depend on which, if that is needed and not yet known.
 pub(super) fn find_facts(
     alloc: Global,
     past: &Option<Arc<History>>,
@@ -117,8 +117,8 @@ pub(super) fn find_facts(
     Ok(())
 }
 
-/// Whether a history holds together, if there is one, and which of its steps depend on which, unless the former is
-/// known without the latter.
+/// Whether a history, if there is one, is coherent, and which of its steps depend on which, unless it is already known
+/// to be coherent.
 fn first_look(
     alloc: Global,
     past: &Option<Arc<History>>,
@@ -138,12 +138,11 @@ fn first_look(
 }
 
 impl Round {
-    /// The round of a setup that goes by an earlier run's history, if there is one, before its first
-    /// step.
+    /// The round of a setup, based on an earlier run's history if there is one, before its first step.
     ///
     /// # Errors
     ///
-    /// An error where the host's memory ran out.
+    /// An error if the host's memory ran out.
     #[tactic(auto, using(crate::proofs::Keeping::kept_opening))]
     pub fn new(alloc: Global, setup: Setup, past: Option<Arc<History>>) -> Result<Round, AllocError>
         ensures round { IfOk result (λ round. round ≡ opening setup (option_map arc_value past)) }
@@ -171,22 +170,22 @@ impl Round {
         })
     }
 
-    /// What it started from.
+    /// Its setup.
     pub fn setup(&self) -> &Setup
         ensures { result.now ≡ self.now.setup }
     {
         &self.setup
     }
 
-    /// The history that it goes by, if there is one.
+    /// The history that it is based on, if there is one.
     pub fn past(&self) -> Option<&Arc<History>>
         ensures { option_map (λ h. arc_value h.now) result ≡ self.now.past }
     {
         self.past.as_ref()
     }
 
-    /// The record of thread `t` at a number of steps made in the history that it goes by, if there is one. The records
-    /// of this history have their pages in its own map.
+    /// The record of thread `t` and this number in the history that it is based on, if there is one. The records of
+    /// this history have their pages in its own map.
     pub fn old_record(&self, t: u8, number: u32) -> Option<&Arc<Record>>
         ensures record { option_map (λ r. arc_value r.now) result ≡ found self.now.past t number }
         ensures mapped { (h : OldHistory) → self.now.past ≡ Some h → IsMapped h }
@@ -222,8 +221,8 @@ impl Round {
         self.stopped
     }
 
-    /// How many instructions the executed steps made: where the round goes by a sound history, those
-    /// that its report tells.
+    /// How many instructions the executed steps made. If the round is based on a sound history, its report gives this
+    /// number.
     #[tactic(auto, using(crate::proofs::Keeping::reported))]
     pub fn instructions(&self) -> u64
         ensures executed { result ≡ executed_instructions self.now.schedule self.now.records }
@@ -233,14 +232,14 @@ impl Round {
         self.instructions
     }
 
-    /// How many steps that were taken were discarded; 2 ^ 64 - 1 stands for more.
+    /// How many taken steps were discarded, counted up to 2 ^ 64 - 1.
     pub fn discarded(&self) -> u64
         ensures { result ≡ self.now.discarded }
     {
         self.discarded
     }
 
-    /// The bytes that were put out.
+    /// The output so far.
     pub fn output(&self) -> &[u8]
         ensures { result.now ≡ self.now.machine.output }
     {
@@ -284,7 +283,7 @@ impl Round {
         }
     }
 
-    /// Whether what it goes by has the page map of its setup, if it goes by anything. So all its
+    /// Whether the history that it is based on, if there is one, has the page map of its setup. If so, all its own
     /// records have their slots in that map.
     #[tactic(auto, using(crate::proofs::Mapped::same_image, crate::proofs::Mapped::all_mapped))]
     fn has_same_map(&self) -> bool
@@ -297,8 +296,8 @@ impl Round {
         }
     }
 
-    /// Whether versions can be found: the round went on as its history did, which has its page map and its fuel, and
-    /// none are known.
+    /// Whether versions can be found: the round has continued as its history did, which has the round's page map and
+    /// fuel, and none are known.
     fn can_find_versions(&self, history: &History) -> bool
         requires { self.now.past ≡ Some history.now }
         ensures { result ≡ true → IsComparable self.now history.now }
@@ -311,11 +310,11 @@ impl Round {
         }
     }
 
-    /// Versions to begin with, all unknown, if they are needed and the round has none; else none.
+    /// Initial versions, all unknown, if they are needed and can be found; else none.
     ///
     /// # Errors
     ///
-    /// An error where the host's memory ran out.
+    /// An error if the host's memory ran out.
     pub(super) fn first_versions(&self, needed: bool) -> Result<Option<Box<Versions>>, AllocError>
         ensures { IfOk result (λ versions. AreRight self.now (unboxed versions)) }
     {
@@ -331,7 +330,7 @@ impl Round {
         }
     }
 
-    /// What it started from, and the records of its steps.
+    /// Its setup, and the records of its steps.
     fn into_steps(self) -> (Setup, Records)
         ensures { history_of self ≡ record { setup = result.0; records = result.1 } }
     {
@@ -339,9 +338,9 @@ impl Round {
         (setup, records)
     }
 
-    /// What it leaves to the next round: its setup, and the records of its steps; or none where what
-    /// it goes by has another page map than its setup, which no sound history has. Takes no memory.
-    /// Where the round went by a sound history and has an end, this is an honest history.
+    /// The history that the next round is based on: its setup, and the records of its steps. There is none if its own
+    /// history has another page map than its setup, which no sound history has. Allocates nothing. If the round is
+    /// based on a sound history and has an end, the result is honest.
     #[tactic(auto, using(crate::proofs::Keeping::left_honest, crate::proofs::Mapped::sound_map))]
     pub fn into_history(self) -> Option<History>
         ensures same { IsOfMap self.past self.setup → result ≡ Some (history_of self) }
@@ -363,8 +362,7 @@ impl Round {
         }
     }
 
-    /// What it started from and the history that it goes by, for whoever makes the round anew. Takes no
-    /// memory.
+    /// Its setup and the history that it is based on, to make the round from its start again. Allocates nothing.
     pub fn into_setup(self) -> (Setup, Option<Arc<History>>)
         ensures setup { result.0 ≡ self.setup }
         ensures past { option_map arc_value result.1 ≡ self.past }

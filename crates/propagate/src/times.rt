@@ -13,7 +13,7 @@ use std::array;
 use thunk_record::Record;
 
 /// A page that a step reads or writes, and which version of it the step finds, if that is known. Version n is the page
-/// as the first n steps of the history leave it.
+/// after the first n steps of the history.
 #[derive(Clone, Copy)]
 pub struct PageVersion {
     pub slot: usize,
@@ -31,8 +31,8 @@ pub struct Times {
     pub viewed: [u32; THREADS],
 }
 
-/// The entry in `viewed` of thread `u`, which exists or is the next to be created, after a step of thread `t` that left
-/// this machine: `now` if it is `t` and ready, `now + 1` if it isn't ready, and else as before.
+/// The entry in `viewed` of thread `u`, which exists or is the next to be created, after a step of thread `t` that
+/// resulted in this machine: `now` if it is `t` and ready, `now + 1` if it isn't ready, and else as before.
 fn viewed_at(core: &Core, t: u8, u: u8, before: u32, now: u32) -> u32
     requires now { now ≤ MOST_STEPS }
     requires there { u ≤ length core.now.harts }
@@ -45,7 +45,7 @@ fn viewed_at(core: &Core, t: u8, u: u8, before: u32, now: u32) -> u32
 }
 
 impl Times {
-    /// So many pages, each written at a time, and no thread that was given a view.
+    /// Times for `pages` pages, each last written after `at` steps, and views that were all given after 0 steps.
     pub fn new(alloc: Global, pages: usize, at: u32) -> Result<Times, AllocError>
         ensures written { IfOk result (λ times. times.written.items ≡ replicate pages at) }
         ensures viewed { IfOk result (λ times. times.viewed ≡ replicate THREADS 0) }
@@ -77,7 +77,7 @@ impl Times {
         }
     }
 
-    /// The version of a page in shared memory, where pages are those of a history.
+    /// The version of a page in shared memory, if the pages are those of a history.
     pub fn stored(&self, slot: usize) -> PageVersion
         ensures { result ≡ stored_version self.now.written.items slot }
     {
@@ -100,7 +100,7 @@ impl Times {
         }
     }
 
-    /// A step wrote the pages of its record.
+    /// Notes that a step wrote the pages of its record.
     pub fn write(&mut self, rec: &Record, now: u32)
         ensures written { self.new.written.items
             ≡ with_each self.old.written.items (written_slots rec.now) now }
@@ -112,7 +112,7 @@ impl Times {
         }
     }
 
-    /// A step gave some threads a view.
+    /// Notes that a step gave some threads a view.
     pub fn give(&mut self, threads: &[u8], now: u32)
         ensures viewed { self.new.viewed ≡ with_each self.old.viewed threads.now now }
         ensures written { self.new.written.items ≡ self.old.written.items }
@@ -122,7 +122,7 @@ impl Times {
         }
     }
 
-    /// A step of thread `t` gave threads a view, which left this machine.
+    /// Notes which threads a step of thread `t` gave a view. The step resulted in this machine.
     pub fn give_by(&mut self, core: &Core, t: u8, now: u32)
         requires { now ≤ MOST_STEPS }
         ensures viewed { (u : ℕ) → u < THREADS → slice_index self.new.viewed u

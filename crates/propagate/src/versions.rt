@@ -35,7 +35,7 @@ pub struct Versions {
     pub pages: Vec<Option<u32>>,
 }
 
-/// Which versions of the pages that a step of thread `t` reads it finds in its view.
+/// The versions that a step of thread `t` finds in its view of the pages that it reads.
 fn read_versions(
     alloc: Global,
     times: &Times,
@@ -52,7 +52,7 @@ fn read_versions(
         .collect(alloc)
 }
 
-/// Which versions of the pages that a step writes it finds in shared memory.
+/// The versions that a step finds in shared memory of the pages that it writes.
 fn written_versions(
     alloc: Global,
     times: &Times,
@@ -83,7 +83,8 @@ fn step_versions(alloc: Global, times: &Times, rec: &Record) -> Result<StepVersi
     Ok(StepVersions { read, written })
 }
 
-/// Which versions of pages the steps of a history read and write, which has this graph and so many pages. One pass.
+/// Which versions of pages the steps of a history read and write, if it has this graph and `pages` pages. Takes one
+/// pass.
 pub fn steps_of(
     alloc: Global,
     history: &History,
@@ -119,7 +120,7 @@ fn is_of(pages: &[Option<u32>], slot: usize, version: Option<u32>) -> bool
     }
 }
 
-/// Notes the versions of the pages that a record which fits read, as far as they are current in its thread's view.
+/// Notes the versions of the pages that a fitting record read, as far as they are current in its thread's view.
 fn learn(pages: &mut [Option<u32>], times: &Times, t: u8, read: &[PageVersion])
     ensures { pages.new
         ≡ learned times.now.written.items times.now.viewed pages.old t read.now }
@@ -131,7 +132,8 @@ fn learn(pages: &mut [Option<u32>], times: &Times, t: u8, read: &[PageVersion])
     }
 }
 
-/// Pages that a step of the history writes are as it left them, if they were as it found them.
+/// Pages that a step of the history writes get the version after it, if they had the version that it found; else their
+/// version is unknown.
 fn rewrite(pages: &mut [Option<u32>], written: &[PageVersion], after: u32)
     ensures { pages.new ≡ rewritten pages.old after written.now }
 {
@@ -141,7 +143,8 @@ fn rewrite(pages: &mut [Option<u32>], written: &[PageVersion], after: u32)
     }
 }
 
-/// What is known of pages once the record of a step of the history fits, and then is reused, which leaves this version.
+/// Updates what is known of pages when the fitting record of a step of the history is reused. `after` is the version
+/// after that step.
 fn make_again(pages: &mut [Option<u32>], times: &Times, t: u8, step: &StepVersions, after: u32)
     ensures { pages.new ≡ rewritten (learned times.now.written.items times.now.viewed pages.old t
         step.now.read.items) after step.now.written.items }
@@ -161,7 +164,7 @@ fn forget(pages: &mut [Option<u32>], rec: &Record)
 }
 
 impl Versions {
-    /// Versions of which nothing is known yet, after so many steps of a round with so many pages.
+    /// Versions of which nothing is known yet, after `now` steps of a round with `pages` pages.
     pub fn new(
         alloc: Global,
         steps: Vec<StepVersions>,
@@ -179,8 +182,8 @@ impl Versions {
         })
     }
 
-    /// Whether the page at place `k` of those that the history's step at a place read is known to be what it read, in
-    /// the view of thread `t`.
+    /// Whether page `k` of those that the history's step at a place read is known to be, in the view of thread `t`,
+    /// what the step read.
     fn knows_read(&self, place: usize, t: u8, k: usize) -> bool
         ensures { result ≡ versions.knows_read self.now place t k }
     {
@@ -222,7 +225,7 @@ impl Versions {
         true
     }
 
-    /// The record at a place of the history was reused, with which so many steps were made.
+    /// Notes that the record at a place of the history was reused, after which the round has `now` steps.
     fn reuse(&mut self, place: usize, rec: &Record, now: u32)
         requires there { place < length self.old.steps.items }
         requires few { length self.old.steps.items ≤ MOST_STEPS }
@@ -244,7 +247,7 @@ impl Versions {
         times.write(rec, now);
     }
 
-    /// A step of thread `t` gave threads a view, which left this machine after so many steps.
+    /// Notes which threads a step of thread `t` gave a view. After it the round has this machine and `now` steps.
     fn give_views(&mut self, core: &Core, t: u8, now: u32)
         requires { now ≤ MOST_STEPS }
         ensures { AreGiven core.now t now self.old self.new }
@@ -252,7 +255,7 @@ impl Versions {
         self.times.give_by(core, t, now);
     }
 
-    /// A step was executed, with which so many steps were made.
+    /// Notes that a step was executed, after which the round has `now` steps.
     fn execute(&mut self, rec: &Record, now: u32)
         ensures { AreExecuted self.old rec.now now self.new }
     {
@@ -261,7 +264,7 @@ impl Versions {
     }
 }
 
-/// What is known of versions, if anything is, and else these.
+/// The known versions, if there are any, else the fresh ones.
 pub fn known_or(known: Option<Box<Versions>>, fresh: Option<Box<Versions>>) -> Option<Box<Versions>>
     ensures { result ≡ (if is_some known then known else fresh) }
 {
@@ -271,8 +274,8 @@ pub fn known_or(known: Option<Box<Versions>>, fresh: Option<Box<Versions>>) -> O
     }
 }
 
-/// What is known of versions after the record at a place of the history was reused, which left this machine after so
-/// many steps.
+/// What is known of versions after the record at a place of the history was reused. The round then has this machine and
+/// `now` steps.
 pub fn after_reuse(
     versions: Option<Box<Versions>>,
     core: &Core,
@@ -295,7 +298,7 @@ pub fn after_reuse(
     }
 }
 
-/// What is known of versions after a step was executed, which left this machine after so many steps.
+/// What is known of versions after a step was executed. The round then has this machine and `now` steps.
 pub fn after_execution(
     versions: Option<Box<Versions>>,
     core: &Core,

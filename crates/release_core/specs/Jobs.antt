@@ -1,4 +1,4 @@
--- What a thread is to run next.
+-- The next thunk of a thread.
 use Rattle.std.specs.Prelude.{◌≡◌, ℕ}
 use Rattle.std.specs.Arc.{arc_value}
 use Rattle.machine_spec.specs.Machine.{Machine, hart_of}

@@ -1,4 +1,4 @@
--- What holds of the records of every run, and where those of each thread stand among all.
+-- What holds of the records of every run, and the places of each thread's records among all.
 use Rattle.std.specs.Prelude.{◌≡◌, ◌<◌, ◌≤◌, ◌==◌, ℕ, suc, true, if◌then◌else◌, List, [], ◌∷◌, length, nat_lt, slice_index_or}
 use Rattle.std.specs.List.{list_all}
 use Rattle.guest_call.specs.declared.thread_number.TheConstants.{THREADS}
@@ -6,7 +6,7 @@ use Rattle.machine_spec.specs.declared.TheConstants.{MOST_STEPS}
 use Rattle.thunk_spec.specs.Record.{Record}
 use Rattle.history_spec.specs.History.{is_numbered}
 
--- The places of the records of a thread in order, where the first of all has place k.
+-- The places of the records of a thread in order, if the first of all records has place k.
 abbrev pub places_from : ℕ → ℕ → List Record → List ℕ
 places_from k t [] = []
 places_from k t (r ∷ rs) = if r.thread == t then k ∷ places_from (suc k) t rs else places_from (suc k) t rs

@@ -82,7 +82,7 @@ impl Core {
         self.ending
     }
 
-    /// The bytes that were put out.
+    /// The output so far.
     pub fn output(&self) -> &[u8]
         ensures { result.now ≡ self.now.output }
     {
@@ -138,7 +138,7 @@ impl Core {
         }
     }
 
-    /// How many threads there are, those that have ended among them.
+    /// How many threads there are, ended ones included.
     pub fn threads(&self) -> usize
         ensures count { result ≡ length self.now.harts }
         ensures whole { IsWhole self.now }
@@ -165,9 +165,9 @@ impl Core {
         view_at(self.harts.as_slice(), t)
     }
 
-    /// Whether a record stands for the next step of its thread: the thread is ready and has made as
-    /// many steps, and has the record's first registers, its view has the bytes of each read page,
-    /// and a thunk of this machine's fuel may have ended as the record's did. Takes no memory.
+    /// Whether a record fits: its thread is ready, has made as many steps and has the record's first registers, its
+    /// view has the bytes of each read page, and a thunk of this machine's fuel may have ended as the record's did.
+    /// Allocates no memory.
     #[tactic(auto, using(machine_calls::proofs::Asking::below), unfolding(machine_spec::specs::Step::fits))]
     pub fn fits(&self, rec: &Record) -> bool
         ensures { result ≡ step.fits self.now rec.now }
@@ -185,7 +185,7 @@ impl Core {
         )
     }
 
-    /// The same. The counter rises by the read pages that are compared.
+    /// Like `fits`. The counter rises by the number of read pages that are compared.
     #[tactic(auto, using(machine_calls::proofs::Asking::below), unfolding(machine_spec::specs::Step::fits))]
     pub fn fits_counted(&self, rec: &Record, compared: &mut Compared) -> bool
         ensures fits { result ≡ step.fits self.now rec.now }
@@ -218,11 +218,11 @@ fn frame_of(alloc: Global, setup: &Setup) -> Result<Arc<Frame>, AllocError>
 }
 
 impl Core {
-    /// The machine that a setup starts as.
+    /// The machine at the start of a setup's run.
     ///
     /// # Errors
     ///
-    /// An error where the host's memory ran out.
+    /// An error if the host's memory ran out.
     #[tactic(auto, unfolding(machine_spec::specs::Setup::first))]
     pub fn new(alloc: Global, setup: &Setup) -> Result<Core, AllocError>
         ensures first { IfOk result (λ core. core ≡ first setup.now) }
@@ -247,7 +247,7 @@ impl Core {
     }
 }
 
-/// What applying a record needs that takes memory, made before anything is changed.
+/// What applying a record has to allocate, made before anything changes.
 #[derive(Drop)]
 struct Prepared {
     memory: Arc<PageTable>,
@@ -255,7 +255,7 @@ struct Prepared {
     views: Vec<Arc<PageTable>>,
 }
 
-/// Shared memory with a record's stored bytes. One that stored nothing shares the table.
+/// Shared memory with a record's stored bytes applied. If the record stored nothing, the table is shared.
 fn written(
     alloc: Global,
     memory: &Arc<PageTable>,
@@ -271,7 +271,7 @@ fn written(
     Ok(after)
 }
 
-/// Shared memory with a record's stored bytes, the bytes of its put, and the views that its end can give.
+/// Shared memory with a record's stored bytes applied, the bytes of its put, and the views that its end can give.
 fn prepare(
     alloc: Global,
     map: &PageMap,
@@ -296,11 +296,11 @@ fn prepare(
 }
 
 impl Core {
-    /// What thread `t`, which is ready, is to run next.
+    /// The next thunk of thread `t`, which is ready, as a job.
     ///
     /// # Errors
     ///
-    /// An error where the host's memory ran out.
+    /// An error if the host's memory ran out.
     #[tactic(auto, using(machine_calls::proofs::Asking::below, machine_calls::proofs::Asking::view_count))]
     pub fn start_of(&self, t: u8) -> Result<Job, AllocError>
         requires { is_ready (hart_of self.now t).status ≡ true }
@@ -312,12 +312,12 @@ impl Core {
         Ok(Job::new(frame, t, hart.number(), *hart.regs(), view))
     }
 
-    /// Applies a record in place of a step of its thread, which may make one: its stored bytes are
-    /// written, and all that follows a thunk is done.
+    /// Applies a record in place of a step of its thread, which may make one: its stored bytes are written, and all
+    /// that follows a thunk is performed.
     ///
     /// # Errors
     ///
-    /// An error where the host's memory ran out; the machine is then as before.
+    /// An error if the host's memory ran out; the machine is then as before.
     #[tactic(auto, using(machine_calls::proofs::Asking::below, machine_calls::proofs::Asking::view_count, machine_calls::proofs::Asking::few_numbers))]
     pub fn apply(&mut self, rec: &Record) -> Result<(), AllocError>
         requires { step.can_step self.old rec.now.thread ≡ true }
@@ -357,8 +357,8 @@ impl Core {
     ///
     /// # Errors
     ///
-    /// `Stale` exactly where the machine has ended or the record doesn't fit, and `NoMemory` where
-    /// the host's memory ran out; the machine is then as before.
+    /// `Stale` exactly if the machine has ended or the record doesn't fit, and `NoMemory` if the host's memory ran out;
+    /// the machine is then as before.
     #[tactic(auto, using(crate::proofs::Applying::fitting_can))]
     pub fn try_apply(&mut self, rec: &Record) -> Result<(), ApplyError>
         ensures ok { OnOk result (self.new ≡ step.apply self.old rec.now) }

@@ -10,9 +10,9 @@ use std::marker::Model;
 use std::sync::Arc;
 use thunk_record::Record;
 
-/// What a run started from, and the records of its steps in order, whose slots are in the page map of
-/// what it started from. A clause sees a `History` of `history_spec`. Beside it stands whether it is known to hold
-/// together, so that nobody has to apply its records again to find out.
+/// The setup of a run, and the records of its steps in order, whose slots are in the setup's page map. A clause sees a
+/// `History` of `history_spec`. Whether it is known to be coherent is kept with it, so that its records needn't be
+/// applied again to find out.
 #[derive(Drop)]
 pub struct History {
     setup: Setup,
@@ -32,7 +32,7 @@ impl Model for History {
 }
 
 impl History {
-    /// The history of these parts. Takes no memory.
+    /// The history of these parts. Allocates no memory.
     pub fn new(setup: Setup, records: Records) -> History
         requires { IsMapped (record { setup = setup; records = records }) }
         ensures { result ≡ record { setup = setup; records = records } }
@@ -44,7 +44,7 @@ impl History {
         }
     }
 
-    /// The same history, which holds together: from then on that is known. Takes no memory.
+    /// The same history, which is coherent: from then on this is known. Allocates no memory.
     pub fn known_coherent(self) -> History
         requires { is_coherent self ≡ true }
         ensures { result ≡ self }
@@ -57,14 +57,14 @@ impl History {
         }
     }
 
-    /// Whether it is known to hold together. One that isn't may do so too.
+    /// Whether it is known to be coherent. A history that isn't known to be may be coherent too.
     pub fn is_known_coherent(&self) -> bool
         ensures { result ≡ true → is_coherent self.now ≡ true }
     {
         self.coherent
     }
 
-    /// What the run started from.
+    /// The setup of the run.
     pub fn setup(&self) -> &Setup
         ensures setup { result.now ≡ self.now.setup }
         ensures mapped { IsMapped self.now }

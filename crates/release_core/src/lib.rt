@@ -1,5 +1,5 @@
-//! The guest machine in code: a setup, the machine that it starts as, a record applied in
-//! place of a step, and the history that a run leaves.
+//! The guest machine in code: a setup, the machine at its start, a record applied in place of a step, and the history
+//! of a run.
 #![tactic(auto)]
 
 mod core_machine;

@@ -1,4 +1,4 @@
-//! How a step is performed on the harts without taking memory: the views that it gives are made before.
+//! How a step is performed on the harts without allocating memory: the views that it gives are made ahead.
 
 ghost use Rattle.std.specs.Prelude.{◌≡◌, ◌<◌, ◌≤◌, true, length, vec_len, vec_capacity, IfOk};
 ghost use Rattle.std.specs.Arc.{arc_value};
@@ -40,8 +40,8 @@ pub fn views_of(
     Ok(views)
 }
 
-/// Does what thread `t` asks, after its thunk was written, and looks for the end. It takes no memory: there is room for
-/// another hart, and as many views were made as can be given.
+/// Performs what thread `t` requests, after its thunk's stores were written, and checks whether the run ends. It
+/// allocates no memory: there is room for another hart, and as many views were made ahead as can be given.
 pub fn do_as_prepared(
     harts: &mut Vec<Hart<Arc<PageTable>>>,
     objects: &mut Objects,

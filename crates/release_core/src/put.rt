@@ -11,8 +11,8 @@ use std::alloc::{AllocError, Global};
 use thunk_record::Record;
 use thunk_run::{Range, put_range};
 
-/// The page of an address, in a thread's view with the stored bytes of a thunk written over it; one of zeros where
-/// there is none. No other page is looked at.
+/// The page of an address, in a thread's view with the stored bytes of a thunk applied; a page of zeros if there is
+/// none. No other page is read.
 #[inline(never)]
 #[tactic(auto, using(crate::proofs::Putting::same_page, crate::proofs::Putting::no_page))]
 fn page_at(map: &PageMap, view: &PageTable, rec: &Record, address: u32) -> Page
@@ -47,7 +47,7 @@ fn push_part(
     Ok(())
 }
 
-/// The bytes of a range that has no more than a page: each stands in the page of the first or in that of the last.
+/// The bytes of a range that has no more than a page: each is in the page of the first or in that of the last.
 fn bytes_of(
     alloc: Global,
     map: &PageMap,
@@ -76,8 +76,8 @@ fn bytes_of(
     Ok(bytes)
 }
 
-/// The bytes that the put which ends a kept thunk appends, read in the thread's view with the
-/// thunk's stored bytes written over it; none where no put ends it. Two pages are made for it at most.
+/// The bytes that the put which ends a kept thunk appends, read in the thread's view with the thunk's stored bytes
+/// applied; none if no put ends it. At most two pages are made for it.
 #[tactic(auto, unfolding(thunk_spec::specs::Record::put_of))]
 pub fn put_bytes(
     alloc: Global,

@@ -49,7 +49,7 @@ impl Row {
         }
     }
 
-    /// One place more.
+    /// Appends a place.
     fn push(&mut self, place: u32) -> Result<(), AllocError>
         ensures ok { OnOk result (self.new ≡ self.old ++ place ∷ []) }
         ensures err { OnErr result (self.new ≡ self.old) }
@@ -58,7 +58,7 @@ impl Row {
         Ok(())
     }
 
-    /// The last place is taken away, if there is one.
+    /// Removes the last place, if there is one.
     fn pop(&mut self)
         ensures { self.new ≡ take (length self.old - 1) self.old }
     {
@@ -66,7 +66,7 @@ impl Row {
     }
 }
 
-/// One place more in row `t`.
+/// Appends a place to row `t`.
 fn add_place(rows: &mut [Row; THREADS], t: usize, place: u32) -> Result<(), AllocError>
     requires { t < THREADS }
     ensures ok { OnOk result (rows.new
@@ -77,7 +77,7 @@ fn add_place(rows: &mut [Row; THREADS], t: usize, place: u32) -> Result<(), Allo
     rows[t].push(place)
 }
 
-/// The last place of row `t` is taken away.
+/// Removes the last place of row `t`.
 fn drop_place(rows: &mut [Row; THREADS], t: usize)
     requires { t < THREADS }
     ensures rest { rows.new
@@ -121,7 +121,7 @@ impl Model for Records {
 }
 
 impl Records {
-    /// No record. Takes no memory.
+    /// No record. Allocates no memory.
     pub fn new(alloc: Global) -> Records
         ensures { result ≡ [] }
     {
@@ -147,8 +147,8 @@ impl Records {
         &self.list[place]
     }
 
-    /// The place of the record of thread `t` at this number of steps made, or else how many records
-    /// there are. Looks at one place alone.
+    /// The place of the record of thread `t` at this number of steps made, or else how many records there are. Looks at
+    /// one place only.
     pub fn place(&self, t: u8, number: u32) -> usize
         ensures { result ≡ position_or_len (is_of t number) self.now }
     {
@@ -171,11 +171,11 @@ impl Records {
         }
     }
 
-    /// A record more. Its number is how many records of its thread there are.
+    /// Appends a record. Its number is how many records of its thread there are.
     ///
     /// # Errors
     ///
-    /// An error where the host's memory ran out; the records are then as before.
+    /// An error if the host's memory ran out; the records are then as before.
     pub fn push(&mut self, rec: Arc<Record>) -> Result<(), AllocError>
         requires few { length self.old < MOST_STEPS }
         requires thread { (arc_value rec).thread < THREADS }
@@ -192,7 +192,7 @@ impl Records {
         Ok(())
     }
 
-    /// The last record is taken away: what undoes a `push`. Takes no memory.
+    /// Removes the last record, which undoes a `push`. Allocates no memory.
     #[tactic(auto, using(crate::proofs::Placing::undone))]
     pub fn pop(&mut self)
         requires { 0 < length self.old }

@@ -15,7 +15,7 @@ use std::alloc::{AllocError, Global};
 use std::marker::Model;
 use std::sync::Arc;
 
-/// An executable that is accepted, what it starts as, and its pages that may be executed, decoded.
+/// An accepted executable, its image, and its pages that may be executed, decoded.
 #[derive(Drop)]
 struct Program {
     elf: Vec<u8>,
@@ -35,7 +35,7 @@ fn code_of(alloc: Global, image: &Image) -> Result<Arc<Code>, AllocError>
 ///
 /// # Errors
 ///
-/// The executable's refusal exactly where it has one, or want of memory.
+/// The executable's refusal if it has one, or `NoMemory` if the host's memory ran out.
 fn program_of(alloc: Global, elf: Vec<u8>) -> Result<Arc<Program>, LoadError>
     ensures elf { IfOk result (λ program. (arc_value program).elf.items ≡ elf.items) }
     ensures image { IfOk result (λ program. IsImageOf elf.items (arc_value program).image) }
@@ -50,8 +50,7 @@ fn program_of(alloc: Global, elf: Vec<u8>) -> Result<Arc<Program>, LoadError>
     }
 }
 
-/// An executable that is accepted, an input, and the limits of a run. Setups of one executable share
-/// its bytes.
+/// An accepted executable, an input, and the limits of a run. Setups of one executable share its bytes.
 #[derive(Drop)]
 pub struct Setup {
     program: Arc<Program>,
@@ -82,7 +81,7 @@ impl Setup {
     ///
     /// # Errors
     ///
-    /// The executable's refusal exactly where it has one (System V gABI, ch. 4 and 5), or want of memory.
+    /// The executable's refusal if it has one (System V gABI, ch. 4 and 5), or `NoMemory` if the host's memory ran out.
     pub fn new(
         alloc: Global,
         elf: Vec<u8>,
@@ -114,7 +113,7 @@ impl Setup {
     ///
     /// # Errors
     ///
-    /// An error where the host's memory ran out.
+    /// An error if the host's memory ran out.
     pub fn with(&self, input: Vec<u8>, limits: Limits) -> Result<Setup, AllocError>
         requires { length input.items ≤ MOST_INPUT_BYTES }
         ensures { IfOk result (λ s. s
@@ -138,7 +137,7 @@ impl Setup {
     ///
     /// # Errors
     ///
-    /// An error where the host's memory ran out.
+    /// An error if the host's memory ran out.
     pub fn with_input(&self, input: Vec<u8>) -> Result<Setup, AllocError>
         requires { length input.items ≤ MOST_INPUT_BYTES }
         ensures { IfOk result (λ s. s ≡ record self.now { input = input.items }) }
@@ -183,7 +182,7 @@ impl Setup {
         self.steps
     }
 
-    /// What its executable starts as.
+    /// The image of its executable.
     pub fn image(&self) -> &Image
         ensures { IsImageOf self.now.elf result.now }
     {
@@ -199,7 +198,7 @@ impl Setup {
     ///
     /// # Errors
     ///
-    /// An error where the host's memory ran out.
+    /// An error if the host's memory ran out.
     #[tactic(auto, unfolding(machine_spec::specs::Setup::map_of))]
     pub fn page_map(&self, alloc: Global) -> Result<PageMap, AllocError>
         ensures map { IfOk result (λ slots. slots ≡ setup.map_of self.now) }
@@ -214,7 +213,7 @@ impl Setup {
     ///
     /// # Errors
     ///
-    /// An error where the host's memory ran out.
+    /// An error if the host's memory ran out.
     #[tactic(auto, unfolding(machine_spec::specs::Setup::start_memory))]
     pub fn memory(&self, alloc: Global) -> Result<PageTable, AllocError>
         ensures { IfOk result (λ memory. memory ≡ setup.start_memory self.now) }

@@ -40,7 +40,7 @@ fn header_page(input: &[u8]) -> [u8; 4096]
     page
 }
 
-/// Puts data pages behind the others.
+/// Appends data pages.
 fn push_data(pages: &mut Vec<MappedPage>, number: u32, count: u32) -> Result<(), AllocError>
     requires { number + count < 2 ^ 32 }
     ensures { OnOk result (pages.new.items ≡ pages.old.items ++ setup.data_pages number count) }
@@ -66,7 +66,7 @@ pub fn pages_of(alloc: Global, image: &PageMap) -> Result<Vec<MappedPage>, Alloc
     Ok(pages)
 }
 
-/// A page of zeros, for all places that hold one.
+/// A page of zeros, which all slots with zeros share.
 fn zeros(alloc: Global) -> Result<Arc<Page>, AllocError>
     ensures { IfOk result (λ page. arc_value page ≡ zero_page) }
 {
@@ -89,7 +89,7 @@ pub fn memory_of(alloc: Global, image: &PageTable, input: &[u8]) -> Result<PageT
     Ok(table)
 }
 
-/// Puts a page of the input behind the others. One that begins past the input's end is the page of zeros, shared.
+/// Appends a page of the input. A page that begins at the input's end or past it is the shared page of zeros.
 #[tactic(auto, using(crate::proofs::Zeros::past_the_end))]
 fn push_input_page(
     table: &mut PageTable,
@@ -108,7 +108,7 @@ fn push_input_page(
     }
 }
 
-/// Puts the pages of the input behind the others.
+/// Appends the pages of the input.
 #[tactic(auto, unfolding(machine_spec::specs::Setup::input_memory))]
 fn push_input(table: &mut PageTable, input: &[u8], zero: &Arc<Page>) -> Result<(), AllocError>
     requires { arc_value zero.now ≡ zero_page }
@@ -120,7 +120,7 @@ fn push_input(table: &mut PageTable, input: &[u8], zero: &Arc<Page>) -> Result<(
     Ok(())
 }
 
-/// Puts the pages of all stacks behind the others: one page of zeros, shared.
+/// Appends the pages of all stacks: one shared page of zeros.
 #[tactic(auto, unfolding(machine_spec::specs::Setup::stack_memory))]
 fn push_stacks(table: &mut PageTable, zero: &Arc<Page>) -> Result<(), AllocError>
     requires { arc_value zero.now ≡ zero_page }

@@ -1,5 +1,5 @@
 -- The report of a round, as a function of the round's number, its setup, its schedule with marks, the lines that are
--- there only if they are asked for, and the workers' steps.
+-- there only if they are requested, and the workers' steps.
 use Rattle.std.specs.Prelude.{ℕ, ◌+◌, Bool, true, false, not, if◌then◌else◌, List, [], ◌∷◌, ◌++◌, length, map, codes, count_by, Option, Some, None}
 use Rattle.std.specs.List.{concat}
 use Rattle.std.specs.Fmt.{decimal}
@@ -24,7 +24,7 @@ end_text (Trap thread pc cause) =
 end_text Deadlock = codes "deadlock"
 end_text Spent = codes "spent"
 
--- The end that there is; a complete schedule has one.
+-- The text of the end, if there is one; a complete schedule has one.
 abbrev pub ending_text : Option End → List ℕ
 ending_text (Some e) = end_text e
 ending_text None = []
@@ -44,8 +44,8 @@ instructions_from m (e ∷ schedule) =
     (if e.reused then 0 else (thunk m.frame (hart_of m e.thread).view (hart_of m e.thread).regs).count)
     + instructions_from (step m e.thread) schedule
 
--- What a report tells only if it is asked for: how many old steps the round reaches, and which numbers of steps a
--- watcher read while the round was made.
+-- What a report says only if it is requested: how many old steps the round's setup reaches, and which numbers of steps
+-- a watcher read while the round was made.
 pub record Extras : Type 0 where
   pub reached : Option ℕ
   pub progress : Option (List ℕ)
@@ -54,7 +54,7 @@ pub record Extras : Type 0 where
 abbrev pub no_extras : Extras
 no_extras = record { reached = None; progress = None }
 
--- What a report tells of a round.
+-- What a report says of a round.
 pub record ReportData : Type 0 where
   pub ending : Option End
   pub schedule : List Entry
@@ -64,7 +64,7 @@ pub record ReportData : Type 0 where
   pub memory : Memory
   pub output : List ℕ
 
--- What there is to tell of the machine from scratch under a schedule.
+-- The data of the report of the machine from scratch under a schedule.
 abbrev pub data_of : Setup → List Entry → Extras → List ℕ → ReportData
 data_of setup schedule extras worker_steps =
     record {
@@ -88,12 +88,12 @@ executed_count schedule = count_by (λ (e : Entry). not e.reused) schedule
 unfoldable pub memory_digest : Memory → List ℕ
 memory_digest memory = encode_lower (sha256 (concat memory))
 
--- The line that tells how many old steps are reached, where it is told.
+-- The line with how many old steps are reached, if it is requested.
 abbrev pub reached_lines : Option ℕ → List (List ℕ)
 reached_lines None = []
 reached_lines (Some n) = line (codes "reached") (decimal n) ∷ []
 
--- The line of the numbers of steps that a watcher read, where it is told.
+-- The line of the numbers of steps that a watcher read, if it is requested.
 abbrev pub progress_lines : Option (List ℕ) → List (List ℕ)
 progress_lines None = []
 progress_lines (Some numbers) = list_line (codes "progress") decimal numbers ∷ []
@@ -119,7 +119,7 @@ report_lines n t =
 unfoldable pub report_text : ℕ → ReportData → List ℕ
 report_text n t = concat (report_lines n t) ++ t.output ++ newline
 
--- The report of round n of a setup, whose schedule has these entries, with what is told only if it is asked for, and
+-- The report of round n of a setup, whose schedule has these entries, with what it says only if it is requested, and
 -- whose workers made so many steps each.
 unfoldable pub report : ℕ → Setup → List Entry → Extras → List ℕ → List ℕ
 report n setup schedule extras worker_steps = report_text n (data_of setup schedule extras worker_steps)

@@ -16,7 +16,7 @@ newline = 10 ∷ []
 abbrev pub hex8 : ℕ → List ℕ
 hex8 n = encode_lower (to_be_bytes w32 n)
 
--- A line: a name, a space, and what stands there.
+-- A line: a name, a space, and the text.
 abbrev pub line : List ℕ → List ℕ → List ℕ
 line name text = name ++ space ++ text ++ newline
 

@@ -7,6 +7,6 @@
 pub struct Entry {
     /// The thread that made the step.
     pub thread: u8,
-    /// Whether the step was taken from an earlier round's record, mark `=`, and not executed, mark `+`.
+    /// Whether the step was reused from a record of an earlier round, mark `=`, or else executed, mark `+`.
     pub reused: bool,
 }

@@ -1,10 +1,10 @@
--- The inputs of the rounds that lists of edits ask for, or the first list that is refused.
+-- The inputs of the rounds that lists of edits request, or the first list that is refused.
 use Rattle.std.specs.Prelude.{ℕ, zero, suc, ◌≡◌, List, [], ◌∷◌, ◌≤◌, All, length, Ok, Err, ⊤}
 use Rattle.edit_spec.specs.Edit.{LineEdit}
 use Rattle.edit_spec.specs.Grammar.{Says}
 use Rattle.edit_spec.specs.Editing.{edited, longest_input}
 
--- The bytes of a list of edits make this of an input: they say edits, and these are done to it, all of them.
+-- The bytes of a list of edits turn an input into the next one: they say edits, all of which are applied to it.
 pub record Makes (list input next : List ℕ) : Type 0 where
   pub edits : List LineEdit
   pub said : Says list (Ok edits)
@@ -22,7 +22,7 @@ abbrev pub AreInputs : List ℕ → List (List ℕ) → List (List ℕ) → Type
 AreInputs first lists [] = ⊥
 AreInputs first lists (input ∷ inputs) = (input ≡ first) × AreMade first lists inputs
 
--- The inputs of the rounds of a rerun: what each list makes of the input before, or, where there is no list, the first
+-- The inputs of the rounds of a rerun: what each list makes of the input before, or, if there is no list, the first
 -- input itself.
 abbrev pub AreRerunInputs : List ℕ → List (List ℕ) → List (List ℕ) → Type 0
 AreRerunInputs first [] inputs = inputs ≡ first ∷ []
@@ -37,8 +37,8 @@ pub data Refusal : Type 0 where
   BadLine : ℕ → Refusal
   OutOfRange : ℕ → Refusal
 
--- A list is refused where an input is to be edited: by its first bad line, or, where there is none, by the first line
--- that passes its bound.
+-- A list is refused for an input: for its first bad line, or, if there is none, for the first line whose edit passes
+-- its bound.
 abbrev pub Refuses : List ℕ → List ℕ → Refusal → Type 0
 Refuses list input (BadLine number) = Says list (Err number)
 Refuses list input (OutOfRange number) =

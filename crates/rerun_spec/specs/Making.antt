@@ -14,21 +14,22 @@ use Rattle.rerun_spec.specs.Inputs.{AreShort}
 use Rattle.rerun_spec.specs.Rounds.{Found, Round, Beginning, made, IsMade, IsPickedRightly, left_by, CanBegin, rounds_after, schedule_in, entries_of, machine_of}
 use Rattle.rerun_spec.specs.Reports.{extras_in, report_of, is_exit, exits}
 
--- So many workers make rounds on inputs that are short enough, from a beginning of which rounds may be made.
+-- So many workers make rounds on inputs that are short enough, from a beginning whose setup may be run and whose
+-- history is sound for it, or none.
 pub record AreMade (b : Beginning) (inputs : List (List ℕ)) (found : List Found) (workers : ℕ) : Type 0 where
   pub begin : CanBegin b
   pub short : AreShort inputs
   pub made : All (IsMade workers) (rounds_after b inputs found)
 
--- A round that workers made has an end and at least one step, and was made by the entries that they found.
+-- A round that workers made has an end and at least one step, and its schedule is the one that they found.
 pub record ComesToAnEnd (r : Round) : Type 0 where
   pub ends : is_some (made r).machine.ending ≡ true
   pub steps : (made r).schedule ≢ []
   pub entries : (made r).schedule ≡ r.found.entries
 
--- A round as it was made is what its report tells: its entries have exact marks and were picked rightly; their threads
--- are a schedule that is permitted and complete; machine and records are those from scratch under it; and the report
--- is that of the round as it was made, with the instructions that were executed.
+-- A round as it was made is what its report says: its entries have exact marks and were chosen by the rule; their
+-- threads are a schedule that is permitted and complete; machine and records are those from scratch under it; and the
+-- report is that of the round as it was made, with the instructions that were executed.
 pub record IsAsReported (r : Round) : Type 0 where
   pub permitted : is_permitted r.setup (threads_of (entries_of r)) ≡ true
   pub complete : is_complete r.setup (threads_of (entries_of r)) ≡ true
@@ -43,18 +44,19 @@ pub record IsAsReported (r : Round) : Type 0 where
   pub report : report_of r ≡ report r.number r.setup (made r).schedule (extras_in r) r.found.worker_steps
   pub exit : exits r ≡ is_exit (made r).machine.ending
 
--- A round of one worker follows the choice, and what it executes, pick by pick, is what its report says.
+-- A round of one worker follows the choice, and the instructions that it executes, pick by pick, are as many as its
+-- report says.
 pub record FollowsTheChoice (r : Round) : Type 0 where
   pub schedule : schedule_in r ≡ one_worker r.setup r.past
   pub executed : executed_in r.setup.limit (opening r.setup r.past) ≡ instructions_from (first r.setup) (entries_of r)
 
--- A round is all reuse of a history: its schedule and its machine are those that the history left, and its report tells
--- of no executed instruction.
+-- A round only reuses a history: its schedule and its machine are the history's, and its report counts no executed
+-- instruction.
 pub record OnlyRepeats (h : History) (r : Round) : Type 0 where
   pub reuses : OnlyReuses h (made r)
   pub instructions : instructions_from (first r.setup) (entries_of r) ≡ 0
 
--- A round does what the round before it did, and executes nothing: it is all reuse of what that one left; its schedule
+-- A round does what the round before it did, and executes nothing: it only reuses the history of that one; its schedule
 -- and its machine, and with it end, output and final memory, are those of the round before.
 pub record Repeats (before after : Round) : Type 0 where
   pub repeats : OnlyRepeats (left_by before) after

@@ -17,8 +17,8 @@ use Rattle.rerun_spec.specs.Rounds.{Round, made, entries_of, machine_of}
 abbrev pub all_executed : List ℕ → List Entry
 all_executed schedule = map (λ t. record { thread = t; reused = false }) schedule
 
--- What a report tells only if it is asked for, of a round that goes by a history, has a setup, and was watched: how
--- many steps of the history the setup reaches, and what was read of the round's progress.
+-- What a report says only if it is requested: how many steps of the history that the round is based on its setup
+-- reaches, and what was read of the round's progress.
 abbrev pub extras_of : Asked → Option History → Setup → List ℕ → Extras
 extras_of asked past setup progress =
     record {
@@ -26,7 +26,7 @@ extras_of asked past setup progress =
       progress = if asked.progress then Some progress else None;
     }
 
--- What a round's report tells of it only if it is asked for.
+-- What a round's report says only if it is requested.
 abbrev pub extras_in : Round → Extras
 extras_in r = extras_of r.asked r.past r.setup r.found.progress
 
@@ -52,8 +52,8 @@ exits r = is_exit (machine_of r).ending
 unfoldable pub all_exit : List Round → Bool
 all_exit rounds = list_all exits rounds
 
--- What there is to tell of a round as it stands, with what is told only if it is asked for, and how many steps each of
--- its workers made; its instructions are those that the records of the executed entries count.
+-- The data of the report of a round in this state, with what it says only if it is requested, and how many steps each
+-- of its workers made; its instructions are those that the records of the executed entries count.
 abbrev pub data_as_made : RoundState → Extras → List ℕ → ReportData
 data_as_made w extras worker_steps =
     record {
@@ -66,15 +66,15 @@ data_as_made w extras worker_steps =
       output = w.machine.output;
     }
 
--- What is told of a round as it was made only if it is asked for.
+-- What the report of a round as it was made says only if it is requested.
 abbrev pub made_extras : Round → Extras
 made_extras r = extras_of r.asked (made r).past (made r).setup r.found.progress
 
--- The text that is told of a round as it was made, by whatever history it went.
+-- The report of a round as it was made, whatever history it is based on.
 abbrev pub made_report : Round → List ℕ
 made_report r = report_text r.number (data_as_made (made r) (made_extras r) r.found.worker_steps)
 
--- The texts that are told of some rounds as they were made, in order.
+-- The reports of some rounds as they were made, in order.
 unfoldable pub made_reports : List Round → List (List ℕ)
 made_reports rounds = map made_report rounds
 

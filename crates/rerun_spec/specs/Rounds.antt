@@ -1,5 +1,5 @@
--- The rounds of a line on some inputs, one after the other, from scratch or by a history that was read, each by the
--- schedule that its workers found.
+-- The rounds of a command line on some inputs, one after the other, from scratch or based on a history that was read,
+-- each by the schedule that its workers found.
 use Rattle.std.specs.Prelude.{ℕ, suc, ◌+◌, ◌≡◌, Bool, true, false, List, [], ◌∷◌, length, slice_get, Option, Some, None, unwrap_or, ⊤}
 use Rattle.machine_spec.specs.Limits.{Limits}
 use Rattle.machine_spec.specs.Machine.{Machine}
@@ -28,22 +28,22 @@ abbrev pub with_limits : Setup → Limits → Setup
 with_limits setup limits = record setup { fuel = limits.fuel; limit = limits.steps }
 
 -- What the workers of a round found: a schedule with its marks, how many of its steps each of them made, the numbers of
--- steps that a watcher read meanwhile, which are none where it wasn't asked for, and how many turns they were counted.
+-- steps that a watcher read meanwhile, which are none if they weren't requested, and how many turns were counted.
 pub record Found : Type 0 where
   pub entries : List Entry
   pub worker_steps : List ℕ
   pub progress : List ℕ
   pub turns : ℕ
 
--- What is asked for by these two answers, and nothing.
+-- The lines that these two answers request, and no lines.
 abbrev pub asked_by : Bool → Bool → Asked
 asked_by reach progress = record { reach = reach; progress = progress }
 
 abbrev pub nothing_asked : Asked
 nothing_asked = asked_by false false
 
--- A round: its number, what it starts from, the history that it goes by, if there is one, which lines are asked for in
--- its report, and what its workers found.
+-- A round: its number, its setup, the history that it is based on, if there is one, which lines are requested in its
+-- report, and what its workers found.
 pub record Round : Type 0 where
   pub number : ℕ
   pub setup : Setup
@@ -59,56 +59,56 @@ made r = round_by r.setup r.past r.found.entries
 abbrev pub IsMade : ℕ → Round → Type 0
 IsMade workers r = IsMadeBy workers r.setup r.past r.found.entries r.found.worker_steps
 
--- If its progress is asked for, what was read of it meanwhile is its progress.
+-- If its progress is requested, the numbers that were read meanwhile are its progress.
 abbrev pub IsWatched : ℕ → Round → Type 0
 IsWatched workers r = r.asked.progress ≡ true → IsProgress workers (length r.found.entries) r.found.progress
 
--- Each entry of a round was picked rightly, when there were as many entries as the point of it says.
+-- Each entry of a round was chosen by the rule when the schedule had some length.
 abbrev pub IsPickedRightly : Round → Type 0
 IsPickedRightly r = (points : List ℕ) × ArePicked r.setup r.past r.found.entries points
 
--- What a round leaves to the next one.
+-- The history of a round, which the next one is based on.
 abbrev pub left_by : Round → History
 left_by r = history_of (made r)
 
--- What rounds begin with: the number of the first, the history that it goes by, if there is one, the setup whose
--- program all of them run, each on its own input, and which lines are asked for in their reports.
+-- What rounds begin with: the number of the first, the history that it is based on, if there is one, the setup whose
+-- program all of them run, each on its own input, and which lines are requested in their reports.
 pub record Beginning : Type 0 where
   pub number : ℕ
   pub past : Option History
   pub setup : Setup
   pub asked : Asked
 
--- From scratch: round 0 goes by no history.
+-- From scratch: round 0 is based on no history.
 abbrev pub from_scratch : Setup → Asked → Beginning
 from_scratch setup asked = record { number = 0; past = None; setup = setup; asked = asked }
 
--- After a memo, which holds a round by its history: round 1 goes by this history, and the program is its own; the
--- limits are those that are asked for.
+-- After a memo, which holds a history: round 1 is based on it, and the program is the history's; the limits are those
+-- that are requested.
 abbrev pub after_memo : History → Limits → Asked → Beginning
 after_memo h limits asked = record { number = 1; past = Some h; setup = with_limits h.setup limits; asked = asked }
 
--- A beginning of which rounds may be made: its setup can go by its history.
+-- Rounds can begin here: the setup may be run, and the history is sound for it, or none.
 abbrev pub CanBegin : Beginning → Type 0
 CanBegin b = CanGoBy b.past b.setup
 
--- A history, if there is one, that is of a setup's program, true or not.
+-- A history, if there is one, that is of a setup's program, honest or not.
 abbrev pub IsOfProgram : Option History → Setup → Type 0
 IsOfProgram None setup = ⊤
 IsOfProgram (Some h) setup = IsSameProgram h.setup setup
 
--- The first round of a beginning, on an input, by what its workers found.
+-- The first round of a beginning, on an input, with what its workers found.
 abbrev pub round_on : Beginning → List ℕ → Found → Round
 round_on b input found =
     record { number = b.number; setup = with_input b.setup input; past = b.past; asked = b.asked; found = found }
 
--- What the rounds after the first begin with: the next number, and what the first leaves.
+-- What the rounds after the first begin with: the next number, and the history of the first.
 abbrev pub after_round : Beginning → List ℕ → Found → Beginning
 after_round b input found =
     record { number = b.number + 1; past = Some (left_by (round_on b input found)); setup = b.setup; asked = b.asked }
 
--- The rounds on the first of some inputs, one for each thing that was found, in order: the first goes by the history of
--- the beginning, if there is one, and each other by what the round before it leaves.
+-- The rounds on the first of some inputs, one for each thing that was found, in order: the first is based on the
+-- history of the beginning, if there is one, and each other on that of the round before it.
 abbrev pub rounds_after : Beginning → List (List ℕ) → List Found → List Round
 rounds_after b [] found = []
 rounds_after b (input ∷ inputs) [] = []
@@ -120,11 +120,11 @@ after_rounds b [] found = b
 after_rounds b (input ∷ inputs) [] = b
 after_rounds b (input ∷ inputs) (f ∷ found) = after_rounds (after_round b input f) inputs found
 
--- The history of a beginning; where it has none, the one of no steps.
+-- The history of a beginning; if it has none, the one of no steps.
 abbrev pub history_at : Beginning → History
 history_at b = unwrap_or b.past (record { setup = b.setup; records = [] })
 
--- What the last of these rounds leaves; where there is none, the history of the beginning.
+-- The history of the last of these rounds; if there is none, that of the beginning.
 abbrev pub last_left : Beginning → List (List ℕ) → List Found → History
 last_left b inputs found = history_at (after_rounds b inputs found)
 
@@ -132,7 +132,7 @@ last_left b inputs found = history_at (after_rounds b inputs found)
 abbrev pub schedule_in : Round → List ℕ
 schedule_in r = threads_of r.found.entries
 
--- Its entries with the marks of the machine from scratch: a step is reused exactly where the record of it fits.
+-- Its entries with the marks of the machine from scratch: a step is reused exactly if the record of it fits.
 abbrev pub entries_of : Round → List Entry
 entries_of r = marked r.past r.setup (schedule_in r)
 
@@ -148,7 +148,7 @@ pub record IsRepeated (rounds : List Round) (before after : Round) : Type 0 wher
   pub next : slice_get rounds (suc place) ≡ Some after
   pub same : after.setup.input ≡ before.setup.input
 
--- Of rounds that go by a memo, the first, without an edit: its input and its limits are those of the memo's round.
+-- Of rounds after a memo, the first, without an edit: its input and its limits are those of the memo's round.
 pub record IsUneditedRerun (h : History) (limits : Limits) (asked : Asked) (inputs : List (List ℕ)) (found : List Found)
     (r : Round) : Type 0 where
   pub first : slice_get (rounds_after (after_memo h limits asked) inputs found) 0 ≡ Some r

@@ -1,10 +1,9 @@
-//! What a command line with lists of edits asks for, as definitions: the inputs of the rounds or the first list that is
-//! refused, the rounds, each by the schedule that its workers found, from scratch or after a memo that was read, each
-//! going by what the one before it leaves, their reports, and whether each ends by exit; with the laws that what was
-//! proved of one round holds of each of them, that a rerun without an edit executes nothing, and that without lists
-//! there is the one run from scratch; of one worker, that it makes the schedule that follows the choice; and that what
-//! a round leaves can be encoded as the bytes of a memo, which are read again if the history is honest. No code but one
-//! plain type.
+//! What a command line with lists of edits requests, as definitions: the inputs of the rounds, or the first list that
+//! is refused; the rounds, from scratch or after a memo that was read, each by the schedule that its workers found and
+//! based on the history of the one before; their reports; and whether each ends by exit. The laws: what was proved of
+//! one round holds of each of them; a rerun without an edit executes nothing; without lists there is one run from
+//! scratch; one worker makes the schedule that follows the choice; and the history of a round can be encoded as the
+//! bytes of a memo, which are read again if the history is honest. No code but one plain type.
 #![tactic(auto)]
 
 ghost use Rattle.std.specs.Prelude.{◌≡◌, ◌≢◌, ◌≤◌, ◌<◌, ◌+◌, ℕ, suc, min, max, ◌&&◌, List, [], ◌∷◌, ◌++◌, All, length, map, take, drop, sum, slice_get, Some, None, ◌⊎◌, Option, true, false, is_some, Ok};
@@ -31,18 +30,17 @@ ghost use Rattle.rerun_spec.specs.Making.{AreMade, ComesToAnEnd, IsAsReported, F
 ghost use Rattle.rerun_spec.specs.Reports.{all_executed, extras_of, report_of, reports_of, is_exit, exits, all_exit, made_report, made_reports, made_exits, all_made_exit};
 ghost use Rattle.rerun_spec.specs.Encoded.{IsEncodedPast, IsEncodedStart};
 
-/// Which lines a report has only because they are asked for.
+/// Which lines a report has only if they are requested.
 #[derive(Clone, Copy)]
 pub struct Asked {
-    /// How many steps of the history that a round goes by are reached.
+    /// How many steps of the history that a round is based on are reached.
     pub reach: bool,
-    /// How many steps were made, as often as that was looked at while the round was made.
+    /// How many steps were made, as often as a watcher read it while the round was made.
     pub progress: bool,
 }
 
-/// For each first input and lists of edits either the inputs of the rounds are there, or a list is the
-/// first that is refused; never both; and there is one answer. The place of the refused list is one of
-/// the lists'.
+/// A first input and lists of edits determine either the inputs of the rounds or the first list that is refused, and
+/// why; never both; and there is one answer. The place of the refused list is one of the lists'.
 pub fn inputs_or_a_refusal()
     ensures either { (input : List ℕ) (lists : List (List ℕ))
         → ((inputs : List (List ℕ)) × AreInputs input lists inputs)
@@ -65,8 +63,8 @@ pub fn inputs_or_a_refusal()
         → place < length lists }
 {}
 
-/// There is one input more than lists; each is as short as an input may be, where the first is; and
-/// without lists there is the first alone.
+/// There is one input more than lists; each is as short as an input may be, if the first is; and without lists there is
+/// the first alone.
 pub fn inputs_fit_their_lists()
     ensures count { (input : List ℕ) (lists inputs : List (List ℕ))
         → AreInputs input lists inputs
@@ -78,8 +76,8 @@ pub fn inputs_fit_their_lists()
     ensures none { (input : List ℕ) → AreInputs input [] (input ∷ []) }
 {}
 
-/// Who reads the lists one after the other, and does each to the last input, comes to all inputs, or to the
-/// first list that is refused, whatever lists come after it.
+/// Applying the lists one after the other, each to the last input, makes all inputs, or comes to the first list that is
+/// refused, whatever lists come after it.
 pub fn inputs_go_on()
     ensures made { (input : List ℕ) (lists inputs : List (List ℕ)) (current list next : List ℕ)
         → AreInputs input lists inputs
@@ -95,8 +93,8 @@ pub fn inputs_go_on()
         → IsFirstRefused input (lists ++ list ∷ later) (length lists) why }
 {}
 
-/// A rerun has the inputs that its lists make of the first one, or, without lists, the first one itself: so
-/// they are there, or a list is the first that is refused; never both; and there is one answer.
+/// A rerun has the inputs that its lists make of the first one, or, without lists, the first one itself: so the lists
+/// determine either these or the first list that is refused; never both; and there is one answer.
 pub fn rerun_inputs_or_a_refusal()
     ensures either { (input : List ℕ) (lists : List (List ℕ))
         → ((inputs : List (List ℕ)) × AreRerunInputs input lists inputs)
@@ -111,8 +109,8 @@ pub fn rerun_inputs_or_a_refusal()
         → inputs ≡ others }
 {}
 
-/// The inputs of a rerun are as many as lists, or one where there is none; each is as short as an input may
-/// be, where the first is. With lists they are those that come after the first input; without, that alone.
+/// The inputs of a rerun are as many as lists, or one if there is none; each is as short as an input may be, if the
+/// first is. With lists they are those that come after the first input; without, that alone.
 pub fn rerun_inputs_fit_their_lists()
     ensures count { (input : List ℕ) (lists inputs : List (List ℕ))
         → AreRerunInputs input lists inputs
@@ -133,9 +131,9 @@ pub fn rerun_inputs_fit_their_lists()
 
 /// There is a round for each thing that was found, as far as there are inputs. The rounds are numbered from the
 /// beginning's number on; each is of the same program, on its own input, by what was found of it, and the first is of
-/// the setup itself where the inputs start with its own; the first goes by the beginning's history, which is none from
-/// scratch, and each other round by what the one before it leaves. The reports of all tell what is reached, or none
-/// does.
+/// the setup itself if the inputs start with its own. The first is based on the beginning's history, which is none from
+/// scratch, and each other round on the history of the one before it. The same lines are requested in the reports of
+/// all.
 pub fn rounds_follow_each_other()
     ensures numbers { (b : Beginning) (inputs : List (List ℕ)) (found : List Found)
         → map (λ (r : Round). r.number) (rounds_after b inputs found)
@@ -172,9 +170,9 @@ pub fn rounds_follow_each_other()
         → after.past ≡ Some (left_by before) }
 {}
 
-/// Who makes the rounds one after the other, each with what the ones before it leave to begin with, makes all
-/// of them; and the last one leaves what the next would go by. The rounds so far are those of what was found so
-/// far, whatever inputs are still to come.
+/// The rounds can be made one after the other, each from the beginning that the ones before it make; and the next would
+/// be based on the history of the last one. The rounds so far are those of what was found so far, whatever inputs are
+/// still to come.
 pub fn rounds_go_on()
     ensures later { (b : Beginning) (inputs : List (List ℕ)) (found more : List Found)
         → rounds_after b inputs (found ++ more)
@@ -216,8 +214,8 @@ pub fn rounds_go_on()
         → (after_rounds b inputs found).past ≡ Some (last_left b inputs found) }
 {}
 
-/// Who tells of the rounds one after the other, each as it was made, tells of all of them, in order; and all
-/// ended by exit where those so far did and the last one does.
+/// The rounds can be reported one after the other, each as it was made, which makes the reports of all of them, in
+/// order; and all ended by exit exactly if those so far and the last one did.
 pub fn made_reports_go_on()
     ensures later { (b : Beginning) (inputs : List (List ℕ)) (found more : List Found)
         → made_reports (rounds_after b inputs (found ++ more))
@@ -238,9 +236,10 @@ pub fn made_reports_go_on()
         && made_exits (round_on (after_rounds b inputs found) input f)) }
 {}
 
-/// Whatever the first round goes by: each round may be run, and leaves the records of its own entries; where
-/// workers made it, it has an end, has made a step, and was made by the entries that they found; what it leaves is
-/// of its own setup, and so of the same program; and so each goes by a history of its program, where the first does.
+/// Whatever history the first round is based on: each round may be run, and has the records of its own entries. If
+/// workers made it, it has an end and at least one step, and its schedule is the one that they found. Its history is of
+/// its own setup, and so of the same program. So each round is based on a history of its program or on none, if the
+/// first is.
 pub fn each_round_comes_to_an_end()
     ensures runs { (b : Beginning) (inputs : List (List ℕ)) (found : List Found)
         → IsSetup b.setup
@@ -270,10 +269,10 @@ pub fn each_round_comes_to_an_end()
         → IsOfProgram (after_rounds b inputs found).past b.setup }
 {}
 
-/// Rounds may begin from scratch with a setup that may be run, and after a memo whose history is honest, with
-/// any limits in range. Then each round that workers make may be made: its setup can go by its history. So each law of
-/// a round that goes by a sound history holds of it. What it leaves is honest. However many workers there are, one or
-/// more, they can make a round of each input.
+/// Rounds may begin from scratch with a setup that may be run, and after a memo whose history is honest, with any
+/// limits in range. Then each round that workers make is of a setup that may be run, and is based on a sound history or
+/// on none. So each law of such a round holds of it. Its own history is honest. Any number of workers, one or more, can
+/// make a round of each input.
 pub fn each_round_may_be_made()
     ensures scratch { (setup : Setup) (asked : AskedFor) → IsSetup setup
         → CanBegin (from_scratch setup asked) }
@@ -303,11 +302,11 @@ pub fn each_round_may_be_made()
         × All (IsMade workers) (rounds_after b inputs found) }
 {}
 
-/// Each round, as its workers make it, is what its report tells: its entries, which they found, have exact marks and
-/// were picked rightly, and their threads are the schedule, which is permitted and complete; its machine is the
-/// one from scratch under it, and has an end; its records are the machine's, entry by entry; and what was executed is
-/// what the report says. One worker makes the round that follows the choice, and executes, pick by pick, what its
-/// report says.
+/// Each round, as its workers make it, is what its report says: its entries, which they found, have exact marks and
+/// were chosen by the rule, and their threads are the schedule, which is permitted and complete; its machine is the one
+/// from scratch under it, and has an end; its records are the machine's, entry by entry; and what was executed is what
+/// the report says. One worker makes the round that follows the choice, and executes, pick by pick, what its report
+/// says.
 pub fn each_round_is_from_scratch()
     ensures threads { (r : Round) → threads_of (entries_of r) ≡ schedule_in r }
     ensures rounds { (b : Beginning) (inputs : List (List ℕ)) (found : List Found) (workers : ℕ)
@@ -321,7 +320,8 @@ pub fn each_round_is_from_scratch()
         → All FollowsTheChoice (rounds_after b inputs found) }
 {}
 
-/// Each round that workers make, by whatever history, executes again no more than it must.
+/// Each round that workers make, based on any history, executes no more than its setup reaches, if it works as that
+/// history did.
 pub fn each_round_reexecutes_the_least()
     ensures { (b : Beginning) (inputs : List (List ℕ)) (found : List Found) (workers : ℕ)
         → IsSetup b.setup
@@ -330,8 +330,9 @@ pub fn each_round_reexecutes_the_least()
         → All (λ r. ReexecutesLeast (made r)) (rounds_after b inputs found) }
 {}
 
-/// What is told of a round as it was made, and whether it ended by exit, is what its report says and whether it
-/// ends by exit, where it can go by its history and workers made it; and so it is for all rounds of a line.
+/// The report of a round as it was made is that of the machine from scratch, and both agree on whether it ends by exit,
+/// if workers made it, its setup may be run, and its history is sound or none. The same holds for all rounds of a
+/// command line.
 pub fn made_rounds_are_told_right()
     ensures report { (r : Round) (workers : ℕ)
         → CanGoBy r.past r.setup
@@ -349,9 +350,9 @@ pub fn made_rounds_are_told_right()
         → all_made_exit (rounds_after b inputs found) ≡ all_exit (rounds_after b inputs found) }
 {}
 
-/// Where the input of a round equals that of the round before, it is all reuse of what that one left, however many
-/// workers there are: no instruction is executed and nothing is discarded; and schedule and machine (so its end,
-/// output and final memory) are those of the round before. One worker would pick no step to be executed.
+/// If the input of a round equals that of the round before, it only reuses the history of that one, for any number of
+/// workers: no instruction is executed and nothing is discarded; and schedule and machine (so its end, output and final
+/// memory) are those of the round before. One worker would pick no step to be executed.
 pub fn repeated_round_executes_nothing()
     ensures repeats { (b : Beginning) (inputs : List (List ℕ)) (found : List Found) (workers : ℕ)
         (before after : Round)
@@ -365,10 +366,10 @@ pub fn repeated_round_executes_nothing()
         → PicksNoneToExecute after }
 {}
 
-/// Where input and limits of the first round of a rerun are those of the memo's round, and the memo's history is
-/// honest, the round is all reuse of it, however many workers there are: no instruction is executed and nothing
-/// is discarded; and schedule and machine (so its end, output and final memory) are those of the memo's round. One
-/// worker would pick no step to be executed.
+/// If input and limits of the first round of a rerun are those of the memo's round, and the memo's history is honest,
+/// the round only reuses it, for any number of workers: no instruction is executed and nothing is discarded; and
+/// schedule and machine (so its end, output and final memory) are those of the memo's round. One worker would pick no
+/// step to be executed.
 pub fn unedited_rerun_executes_nothing()
     ensures repeats { (h : History) (limits : Limits) (asked : AskedFor) (inputs : List (List ℕ))
         (found : List Found) (workers : ℕ) (r : Round)
@@ -429,8 +430,8 @@ pub fn no_edit_list_is_one_round()
         (record { number = 1; setup = h.setup; past = Some h; asked = asked; found = f }) }
 {}
 
-/// There is a report for each round, and so for each input of which something was found; and the workers' steps in the
-/// report of a round that workers made are as many as they are, and add up to the number of steps.
+/// There is a report for each round, and so for each input for which something was found. The report of a round that
+/// workers made has a number of steps for each of them, and these add up to the number of steps.
 pub fn reports_count_right()
     ensures reports { (b : Beginning) (inputs : List (List ℕ)) (found : List Found)
         → length (reports_of (rounds_after b inputs found)) ≡ min (length inputs) (length found) }
@@ -445,10 +446,10 @@ pub fn reports_count_right()
         → sum r.found.worker_steps ≡ length (made r).schedule }
 {}
 
-/// What a round leaves whose machine has an end can be encoded, whatever happened to it, where its setup may be
-/// run and is of bytes, and the history that it goes by, if there is one, can be encoded and is of the same
-/// program. So the next round of the same program may go by it in the same way. The round of one worker has
-/// an end, so both hold of what it leaves.
+/// The history of a round whose machine has an end can be encoded, whatever happened to the round, if its setup may be
+/// run and is of bytes, and the history that it is based on, if there is one, can be encoded and is of the same
+/// program. So the next round of the same program may be based on it in the same way. The round of one worker has an
+/// end, so both hold of its history.
 pub fn what_a_round_leaves_can_be_encoded()
     ensures events { (setup : Setup) (past : Option History) (events : List Event)
         → IsEncodedStart past setup
@@ -468,9 +469,9 @@ pub fn what_a_round_leaves_can_be_encoded()
         → IsEncodedPast (Some (history_of (lone_round setup past))) edited }
 {}
 
-/// An honest history doesn't come from before the standard extension M: where its last thunk ended by an
-/// illegal instruction, its record tells no word of M there. So no memo of version 1 that encodes such a
-/// history is refused for that. The memo of version 2, in which none is old, is read as it.
+/// An honest history doesn't come from before the standard extension M: if its last thunk ended by an illegal
+/// instruction, its record has no word of M there. So no memo of version 1 that encodes such a history is refused for
+/// that. The memo of version 2, none of which is refused as old, is read as this history.
 pub fn honest_memo_is_of_today()
     ensures todays { (h : History) → IsHonest h → is_before_m h ≡ false }
     ensures read { (h : History) → IsHonest h → IsEncodable h → reading (memo h) ≡ Ok h }

@@ -13,9 +13,10 @@ use Rattle.round_spec.specs.Working.{ReexecutesLeast}
 use Rattle.propagate.specs.Executing.{executed_by}
 use Rattle.rerun_workers.specs.Following.{FollowsPicks}
 
--- A round of a setup, by a history if there is one, that so many workers made, and how many of its steps each of them
--- made: it stands by its schedule; one worker makes the round of the choice; by a sound history each entry was picked
--- rightly; it executes no more than it must; it has an end; and without an edit it is all reuse of the history.
+-- A round of a setup, based on a history if there is one, that so many workers made, and how many of its steps each of
+-- them made. The round is where its schedule leads, one worker makes the round of the choice, and if the history is
+-- sound, each entry was picked rightly. If it works as the history did, it executes no more than its setup reaches. It
+-- has an end, and without an edit it only reuses the history.
 pub record IsRoundBy (workers : ℕ) (s : Setup) (before : Option History) (w : RoundState) (worker_steps : List ℕ) : Type 0
   where
     pub setup : w.setup ≡ s
@@ -28,13 +29,13 @@ pub record IsRoundBy (workers : ℕ) (s : Setup) (before : Option History) (w : 
     pub ends : is_some w.machine.ending ≡ true
     pub unedited : (h : History) → before ≡ Some h → IsUnedited h s → OnlyReuses h w
 
--- How many pages were compared for a round: none without an edit since a history that holds together.
+-- How many pages were compared for a round: none without an edit since a coherent history.
 abbrev pub ComparesNone : Setup → Option History → ℕ → Type 0
 ComparesNone s before compared = (h : History) → before ≡ Some h → Repeats h s → compared ≡ 0
 
--- A round after its board was closed, finished or not, how many steps each worker made, and their counters of turns and
--- of compared pages as one each: only what was picked was begun; these numbers add up to the steps; and without an edit
--- the counters are 0.
+-- A round after its board was closed, finished or not, how many steps each worker made, and the sums of their counters
+-- of turns and of compared pages. Only what was picked was started. The steps of the workers add up to those of the
+-- round. Without an edit the sums are 0.
 pub record IsClosed (s : Setup) (before : Option History) (w : RoundState) (worker_steps : List ℕ) (turns compared : ℕ)
     : Type 0 where
   pub setup : w.setup ≡ s
@@ -44,8 +45,8 @@ pub record IsClosed (s : Setup) (before : Option History) (w : RoundState) (work
   pub idle : (h : History) → before ≡ Some h → IsUnedited h s → turns ≡ 0
   pub spares : ComparesNone s before compared
 
--- What is known of how many turns so many workers made for a round: one worker those of the executed steps; without an
--- edit there are none; else they may be any number.
+-- What is known of how many turns so many workers executed for a round: with one worker, those of the executed steps;
+-- without an edit, none; else any number.
 pub record IsCostOf (workers : ℕ) (s : Setup) (before : Option History) (w : RoundState) (turns : ℕ) : Type 0 where
   pub alone : workers ≡ 1 → turns ≡ executed_by w
   pub idle : (h : History) → before ≡ Some h → IsUnedited h s → turns ≡ 0

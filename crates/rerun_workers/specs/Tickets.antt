@@ -10,7 +10,7 @@ use Rattle.round_spec.specs.Rounds.{RoundState, is_in_flight}
 use Rattle.rerun_workers.specs.declared.locked.Task.{Task}
 use Rattle.rerun_workers.specs.declared.locked.Task.TheVariants as task
 
--- The tickets of an issuer stand in this book, and the last one of a thread that is in flight is for its next step.
+-- The tickets of an issuer are in this book, and the last one of a thread that is in flight is for its next step.
 pub record AreIssued (book : Book) (w : RoundState) (issuer : IssuerView) : Type 0 where
   pub named : issuer.book ≡ book
   pub last :

@@ -1,4 +1,4 @@
-//! A step that was begun for a worker before it set to work.
+//! A step that was assigned to a worker before it set to work.
 
 ghost use Rattle.std.proofs.Props.{props};
 ghost use Rattle.rerun_workers.specs.Tickets.{IsTicketOf};
@@ -6,7 +6,7 @@ ghost use Rattle.rerun_workers.specs.Tickets.{IsTicketOf};
 use shared_words::Ticket;
 use thunk_run::Job;
 
-/// A step that was begun for a worker, with its ticket, if there is one.
+/// A step that was assigned to a worker, with its ticket, if there is one.
 #[derive(Drop)]
 pub(super) struct Begun {
     pub(super) job: Job,

@@ -1,12 +1,12 @@
 //! The board: the round under a lock, and the condition on which workers wait.
 //!
-//! Nothing that can be done is left while a worker sleeps, but for as long as a short step takes. Only a call under
-//! the lock changes what there is to do. Whoever made the last such call was told to hold, and then there is nothing to
-//! do; or that the round is finished, and then all are woken; or else it is awake: it is on its way to ask again, or it
-//! executes a step. If that is a short one, it asks when it is done; if it runs long, it looks then whether there is
-//! something for another worker, and wakes one of those who wait, who asks in its turn, and made the last call then. To
-//! hold, a worker lets go of the lock and waits in one: so it misses nobody who wakes it for what came after it asked.
-//! A worker that is held at its gate asks and looks only when it is past it.
+//! While a worker sleeps, nothing that can be done waits for longer than a short step takes. Only a call under the lock
+//! changes what there is to do. If the worker that made the last such call has to wait, there is nothing to do. If it
+//! finds that the round is finished, it wakes all. Else it is awake: it is about to ask for its next step, or it
+//! executes one. If that step is short, the worker asks when it is done. If the step runs long, the worker looks
+//! whether there is something for another one, and wakes one of those that wait. That one then asks, and has made the
+//! last call. A worker that has to wait releases the lock and waits in one operation, so it misses no notification of
+//! what came after it asked. A worker that is held at its gate asks and looks only after it has passed the gate.
 
 ghost use Rattle.std.specs.Prelude.{◌≡◌, ◌≢◌, ◌+◌, ◌<◌, ◌≤◌, All, length, map, replicate, sum, sum_by, vec_len, vec_capacity, Some, [], IfOk};
 ghost use Rattle.std.specs.Arc.{arc_value};
@@ -31,8 +31,8 @@ use std::sync::{Condvar, Mutex, Wait};
 use std::thread::Threads;
 use thunk_run::{Job, Run};
 
-/// What workers share: the round under a lock, and the condition that there is work or none any more. A worker executes
-/// outside the lock, and who watches the round takes none.
+/// What workers share: the round under a lock, and the condition that there is work, or will be none. A worker executes
+/// outside the lock, and a watcher takes no lock.
 #[derive(Drop)]
 pub struct Board<J: Naming> {
     lock: Mutex<Locked<J>>,
@@ -50,11 +50,11 @@ pub struct ClosedRound {
     pub round: Round,
     /// How many of its steps each worker made.
     pub worker_steps: Vec<u64>,
-    /// What its workers' work took.
+    /// The effort of its workers.
     pub effort: Effort,
 }
 
-/// A pass for each of so many workers, which has made no step.
+/// A pass for each of `workers` workers, none of which has made a step.
 fn passes_of<J: Naming, R: Threads>(
     rt: &R,
     alloc: Global,
@@ -74,7 +74,7 @@ fn passes_of<J: Naming, R: Threads>(
     Ok(passes)
 }
 
-/// What there is of a board beside its round, before the first step.
+/// The parts of a board besides its round, before the first step.
 #[derive(Drop)]
 struct Places<J: Naming> {
     /// A pass for each worker.
@@ -85,8 +85,8 @@ struct Places<J: Naming> {
     numbers: Vec<u64>,
 }
 
-/// Passes for so many workers, none of whom has made a step, and room to list what they made and what so many watches
-/// are given.
+/// Passes for `workers` workers, none of which has made a step, and room to list the steps of each worker and a number
+/// for each of `watches` watches.
 fn places_of<J: Naming, R: Threads>(
     rt: &R,
     alloc: Global,
@@ -113,8 +113,8 @@ fn places_of<J: Naming, R: Threads>(
     })
 }
 
-/// All shares as one, the steps of each pass in their order, and their effort as one, of which there is none without an
-/// edit.
+/// Merges the shares and the efforts of all passes, and lists the steps of each in their order. Without an edit the
+/// effort has no turns.
 fn gather<J: Naming>(
     mut passes: Vec<Pass<J>>,
     mut worker_steps: Vec<u64>,
@@ -150,7 +150,7 @@ fn gather<J: Naming>(
     (all, worker_steps, effort)
 }
 
-/// So many watches of the word that counts the steps of a round.
+/// `watches` watches of the word that counts the steps of a round.
 fn watches_of<J: Naming>(
     alloc: Global,
     counter: &mut Counter,
@@ -168,7 +168,7 @@ fn watches_of<J: Naming>(
     Ok(seats)
 }
 
-/// Places for so many workers, and so many watches of the word that counts the steps.
+/// Places for `workers` workers, and `watches` watches of the word that counts the steps.
 fn watched_places<J: Naming, R: Threads>(
     rt: &R,
     alloc: Global,
@@ -195,8 +195,8 @@ fn watched_places<J: Naming, R: Threads>(
     Ok((places, seats))
 }
 
-/// Takes all watches back. What each of them has seen, the last look at the word sees too, and it stands in the list
-/// once for each.
+/// Takes all watches back, and looks at the word a last time, after all that they have seen. Lists the number that it
+/// finds once for each watch.
 fn last_numbers<J: Naming>(
     mut counter: Counter,
     mut watches: Vec<Watch<J>>,
@@ -220,11 +220,11 @@ fn last_numbers<J: Naming>(
 }
 
 impl<J: Naming> Board<J> {
-    /// The board of a round before its first step, and a pass for each of its workers, none of whom has made a step.
+    /// The board of a round before its first step, and a pass for each of its workers, none of which has made a step.
     ///
     /// # Errors
     ///
-    /// An error where the host's memory ran out.
+    /// An error if the host's memory ran out.
     pub fn new<R: Threads>(
         rt: &R,
         alloc: Global,
@@ -251,12 +251,12 @@ impl<J: Naming> Board<J> {
         Ok((Board::opened(locked, worker_steps, numbers), passes))
     }
 
-    /// The board of a round before its first step, a pass for each of its workers, none of whom has made a step, and
-    /// so many watches. The round's counter, which has counted nothing, counts the steps from now on.
+    /// The board of a round before its first step, a pass for each of its workers, none of which has made a step, and
+    /// `watches` watches. The round's counter, which has counted nothing, counts the steps from now on.
     ///
     /// # Errors
     ///
-    /// An error where the host's memory ran out.
+    /// An error if the host's memory ran out.
     pub fn with_watches<R: Threads>(
         rt: &R,
         alloc: Global,
@@ -302,8 +302,8 @@ impl<J: Naming> Board<J> {
         }
     }
 
-    /// How many steps of the round were made, by one look at the word that counts them. It takes no lock and no memory,
-    /// and waits for nobody.
+    /// How many steps of the round were made, by one look at the word that counts them. It takes no lock, allocates
+    /// nothing, and never waits.
     pub fn progress(&self, watch: &mut Watch<J>) -> u64
         ensures seen { watch.new.reader.seen ≡ result }
         ensures rises { watch.old.reader.seen ≤ result }
@@ -312,14 +312,14 @@ impl<J: Naming> Board<J> {
         watch.look()
     }
 
-    /// What a worker is to do next, as the round under the lock tells it. Where it is told to hold, it waits until it
-    /// is woken, and asks again. A step to execute has the page map and the fuel of the round's setup, and if a ticket
-    /// could be issued for it, the pass holds it. Without an edit it is never one.
+    /// What a worker is to do next, by the round under the lock. If it has to wait, it sleeps until it is woken, and
+    /// asks again. A step to execute has the page map and the fuel of the round's setup. If a ticket could be issued
+    /// for it, the pass holds the ticket. Without an edit there is no step to execute.
     ///
-    /// Who is told to begin a step wakes nobody, since a short one is done before another worker could begin what else
-    /// there is to do, and whoever has done it asks again. Whose step runs long wakes another worker then, if there is
-    /// something for it. Who is told that there is nothing any more wakes all. What was reused meanwhile are steps of
-    /// this worker.
+    /// A worker that is assigned a step wakes no other: a short step is done before another worker could start what
+    /// else there is to do, and the worker then asks again. If its step runs long, it wakes another one then, if there
+    /// is something for it. A worker for which there is nothing more to do wakes all. Steps that are reused meanwhile
+    /// count as this worker's.
     pub fn next<R: Wait>(&self, rt: &R, pass: &mut Pass<J>) -> Task
         ensures told { result ≢ task.Hold }
         ensures own { BeginsIn (first J.setup).frame result }
@@ -352,7 +352,8 @@ impl<J: Naming> Board<J> {
         self.lock.lock(rt).has_more()
     }
 
-    /// Wakes one of those who wait, if there is something for it to do. Whose step runs long does it once.
+    /// Wakes one of the waiting workers, if there is something for it to do. A worker whose step runs long does so
+    /// once.
     pub(super) fn wake_another<R: Wait>(&self, rt: &R) {
         if self.has_more(rt) {
             self.changed.notify_one();
@@ -374,8 +375,8 @@ impl<J: Naming> Board<J> {
     }
 
     /// Commits a run of the step that the worker was last assigned, or says why it can't. If the pass has that step's
-    /// ticket, the run's registers and read pages aren't compared. Who commits asks for its next step then; if memory
-    /// ran out, nobody has to ask, and all are woken.
+    /// ticket, the run's registers and read pages aren't compared. The worker then asks for its next step, so it wakes
+    /// no other. If memory ran out, there is no next step, and all are woken.
     pub fn commit_taken<R: Wait>(&self, rt: &R, pass: &mut Pass<J>, run: Run) -> CommitOutcome
         requires own { arc_value run.frame ≡ (first J.setup).frame }
         requires ticket { IsRunOfTicket pass.old.ticket run }
@@ -406,8 +407,8 @@ impl<J: Naming> Board<J> {
         self.changed.notify_all();
     }
 
-    /// When all passes are back: the round, how many steps each worker made, in the order of the passes, and their
-    /// effort as one, of which there is none without an edit. Takes no memory.
+    /// Takes all passes back, and returns the round, how many steps each worker made, in the order of the passes, and
+    /// their merged effort, which has no turns without an edit. Allocates nothing.
     pub fn close(self, passes: Vec<Pass<J>>) -> ClosedRound
         requires all { vec_len passes ≡ J.parts }
         requires workers { (vec_len passes ≡ J.workers) × (0 < vec_len passes) }
@@ -436,8 +437,8 @@ impl<J: Naming> Board<J> {
         }
     }
 
-    /// As `close`, and for each watch, when all are back, how many steps the round has, by one last look at the word,
-    /// after all that the watches saw. Takes no memory.
+    /// As `close`, and takes all watches back too. For each of them it returns how many steps the round has, by one
+    /// last look at the word, after all that the watches saw. Allocates nothing.
     pub fn close_watched(
         self,
         passes: Vec<Pass<J>>,

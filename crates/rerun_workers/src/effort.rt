@@ -1,4 +1,4 @@
-//! What a worker's work takes.
+//! The effort of a worker.
 
 ghost use Rattle.std.specs.Prelude.{◌≡◌, ◌+◌};
 
@@ -6,7 +6,7 @@ use rv_isa::Turns;
 use std::thread::Threads;
 use thunk_record::Compared;
 
-/// What a worker's work takes. At run time it has no bytes.
+/// The turns and compared pages of a worker. At run time it has no bytes.
 #[derive(Drop)]
 pub struct Effort {
     /// How many turns it executed.
@@ -16,7 +16,7 @@ pub struct Effort {
 }
 
 impl Effort {
-    /// None so far; it is made by who is lent the runtime.
+    /// No effort so far. Only a caller that borrows the runtime can create it.
     pub fn new<R: Threads>(rt: &R) -> Effort
         ensures turns { result.turns ≡ 0 }
         ensures compared { result.compared ≡ 0 }
@@ -27,7 +27,7 @@ impl Effort {
         }
     }
 
-    /// Another's is added.
+    /// Adds another worker's effort.
     pub(super) fn merge(&mut self, other: Effort)
         ensures turns { self.new.turns ≡ self.old.turns + other.turns }
         ensures compared { self.new.compared ≡ self.old.compared + other.compared }

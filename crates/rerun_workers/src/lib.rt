@@ -1,8 +1,8 @@
-//! A round that several workers make. They share it on a board, under one lock: each is told there what to do next,
-//! executes it outside the lock, and hands it in. The type of what lies under the lock keeps that it is the round of
-//! the given setup and history, and counts each worker's steps; so nobody can put another round back, or drop a step.
-//! Who watches the round reads a word that counts its steps, without the lock. Each worker has one counter of turns and
-//! one of compared pages, and can't make others.
+//! A round that several workers make. They share it on a board, under one lock. Each asks there what to do next,
+//! executes the step outside the lock, and submits it. The type of the value under the lock ensures that it is the
+//! round of the given setup and history, and counts each worker's steps, so no other round can take its place, and no
+//! step can be dropped. A watcher reads a word that counts the round's steps, without the lock. Each worker has one
+//! counter of turns and one of compared pages, and can't create others.
 #![tactic(auto)]
 
 mod begun;

@@ -1,4 +1,4 @@
-//! The round under the lock: each call does some of its events, and names them.
+//! The round under the lock. Each call does some of the round's events, and its contract names them.
 
 ghost use Rattle.std.specs.Prelude.{◌≡◌, ◌+◌, ◌<◌, ◌≤◌, ℕ, true, length, Some, is_ok, is_some, if◌then◌else◌, IfSome, OnOk, OnErr};
 ghost use Rattle.std.specs.Arc.{arc_value};
@@ -37,31 +37,31 @@ pub enum Task {
     Begin(Job),
     /// To wait until another worker is done.
     Hold,
-    /// Nothing any more: the round is finished.
+    /// Nothing more: the round is finished.
     Over,
-    /// Nothing any more: the host's memory ran out, and the round was stopped.
+    /// Nothing more: the host's memory ran out, and the round was stopped.
     Memory,
 }
 
-/// What came of a run that a worker handed in.
+/// What came of a run that a worker submitted.
 #[derive(Drop)]
 pub enum CommitOutcome {
     /// It is an entry of the schedule, and its thread is no longer in flight.
     Done,
-    /// It can't be committed, and is handed back: the round is finished, the step ran on another page map
-    /// or with another fuel than the round's, its thread isn't in flight, or its record doesn't fit. Its
-    /// thread is no longer in flight; if it was, one step more was discarded.
+    /// It can't be committed, and is returned: the round is finished, the step ran on another page map or with another
+    /// fuel than the round's, its thread isn't in flight, or its record doesn't fit. Its thread is no longer in flight;
+    /// if it was, its step was discarded.
     Stale(Run),
-    /// The host's memory ran out, and the run is handed back. Its thread is no longer in flight; if it was,
-    /// one step more was discarded. The round was stopped.
+    /// The host's memory ran out, and the run is returned. Its step was discarded, its thread is no longer in flight,
+    /// and the round was stopped.
     Memory(Run),
 }
 
 /// The round that workers make together, under their lock. The total of the ledger's book is the length of the
-/// schedule; so is a word that can be read without the lock, if anybody watches. The issuer issues a ticket for each
-/// step that is taken. The round is of the setup and of the history that its type names, and nothing was begun in it
-/// but what was picked: by a sound history all of it was picked rightly, and without an edit it has done nothing yet
-/// but what the history did.
+/// schedule. If the round is watched, so is a word that is read without the lock. The issuer issues a ticket for each
+/// step that is taken. The round is of the setup and of the history that its type names, and only what was picked was
+/// started in it. If the history is sound, all of it was picked rightly. Without an edit since a coherent history, the
+/// round has only replayed that history so far.
 #[derive(Drop)]
 pub struct Locked<J: Naming> {
     pub(super) round: Round,
@@ -127,7 +127,7 @@ fn commit_run(round: &mut Round, issuer: &Issuer, ticket: Option<Ticket>, run: R
     round.commit_own(run)
 }
 
-/// Counts one step more, if anybody may watch.
+/// Counts one more step, if there is a counter.
 fn count(counter: &mut Option<Counter>)
     requires { IfSome counter.old (λ c. c.writer.added < MOST_STEPS) }
     ensures counts { (table : TableId) (steps : ℕ)
@@ -141,8 +141,8 @@ fn count(counter: &mut Option<Counter>)
 }
 
 impl<J: Naming> Locked<J> {
-    /// A round before its first step, with a book that counts nothing, with a word that doesn't either if anybody
-    /// watches, and with the issuer of its tickets.
+    /// A round before its first step, with a book whose total is 0, with the issuer of its tickets and, if it is
+    /// watched, with a word that has counted nothing.
     #[tactic(auto, using(crate::proofs::Following::follows_opening))]
     pub(super) fn new(
         round: Round,
@@ -226,10 +226,10 @@ impl<J: Naming> Locked<J> {
         }
     }
 
-    /// Reuses records as long as that is picked, each as a step of this worker, and then takes the step
-    /// that is picked to be executed, or tells what is picked in its place. Where memory runs out, what
-    /// was reused stands, and the round is stopped. A step to execute has the page map and the fuel of the round's
-    /// setup, and if a ticket could be issued for it, the pass holds it. Without an edit it is never one.
+    /// Reuses records as long as that is picked, each as a step of this worker. Then takes the step that is picked to
+    /// be executed, or returns what is picked instead. If memory runs out, the reused steps stay in the round, which is
+    /// stopped. A step to execute has the page map and the fuel of the round's setup. If a ticket could be issued for
+    /// it, the pass holds the ticket. Without an edit there is no step to execute.
     pub fn next(&mut self, pass: &mut Pass<J>) -> Task
         ensures does { Tells self.old.round result self.new.round }
         ensures own { BeginsIn (first J.setup).frame result }
@@ -287,8 +287,8 @@ impl<J: Naming> Locked<J> {
         self.commit_taken(pass, run)
     }
 
-    /// The same of a run of the job that the pass's ticket is for, if it has one. If that is the last ticket of its
-    /// thread, the run's registers and read pages aren't compared.
+    /// As `commit`, for a run of the job that the pass's ticket is for, if it has one. If that is the last ticket of
+    /// its thread, the run's registers and read pages aren't compared.
     pub fn commit_taken(&mut self, pass: &mut Pass<J>, run: Run) -> CommitOutcome
         requires own { arc_value run.frame ≡ (first J.setup).frame }
         requires ticket { IsRunOfTicket pass.old.ticket run }

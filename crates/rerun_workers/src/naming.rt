@@ -1,4 +1,4 @@
-//! Which round workers make together, as the types that they share name it.
+//! The names of the round that workers make together, in the types that they share.
 
 ghost use Rattle.std.specs.Prelude.{◌≡◌, ◌+◌, ◌≤◌, ℕ, [], Option, None, Some};
 ghost use Rattle.std.specs.Arc.{arc_value};
@@ -22,9 +22,9 @@ use shared_words::{Issuer, Ticket};
 use std::marker::Brand;
 use std::sync::ledger::{Blank, Ledger, Share};
 
-/// What the round of a board starts from, the history that it uses, its numbers of workers and of watches, the word
-/// that watches read, and the book of its tickets. The types of the board, of its passes and of its watches name all of
-/// these, so nobody can put a round of another setup or of another history in its place, or watch another round.
+/// The setup of a board's round, the history that it is based on, its numbers of workers and of watches, the word that
+/// watches read, and the book of its tickets. The types of the board, of its passes and of its watches name all of
+/// these, so no round of another setup or history can take its place, and no other round can be watched.
 pub trait Naming: Ledger {
     ghost setup: { Setup };
 
@@ -63,7 +63,7 @@ pub struct Blanks {
 }
 
 impl Blanks {
-    /// What a board of so many workers is made from.
+    /// What a board of `workers` workers is made from.
     pub fn new(workers: u32) -> Blanks
         ensures { result.ledger.parts ≡ workers }
     {
@@ -75,10 +75,10 @@ impl Blanks {
 }
 
 /// What a worker holds of a board: how many steps of the round it has made, which its share of the ledger counts too; a
-/// step that was begun for it before it set to work, if there is one; the ticket of the step that it was last told to
-/// begin, until it commits a run or sets that step aside; and its effort: without an edit it executes no turn and, by
-/// any history that holds together, compares no page. Four tallies count how often it asked what to do, was told to
-/// begin a step, executed one, and handed one in.
+/// step that was assigned to it before it set to work, if there is one; the ticket of the step that it was last
+/// assigned, until it commits a run or sets that step aside; and its effort. Without an edit it executes no turn and,
+/// if the history is coherent, compares no page. Four tallies count how often it asked what to do, was assigned a step,
+/// executed one, and submitted one.
 #[derive(Drop)]
 pub struct Pass<J: Naming> {
     pub(super) share: Share<J>,
@@ -102,7 +102,7 @@ pub struct Pass<J: Naming> {
 }
 
 impl<J: Naming> Pass<J> {
-    /// A pass of a share that counts nothing, and of no effort.
+    /// A pass with a share that counts nothing, and with no effort.
     pub(super) fn new(share: Share<J>, effort: Effort) -> Pass<J>
         requires one { share.parts ≡ 1 }
         requires nothing { share.amount ≡ 0 }

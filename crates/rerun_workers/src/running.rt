@@ -1,4 +1,4 @@
-//! A round by so many workers.
+//! A round that several workers make.
 
 ghost use Rattle.std.specs.Prelude.{◌≡◌, ◌-◌, ◌<◌, ◌≤◌, ◌∷◌, [], Some, length, replicate, option_map, IfOk};
 ghost use Rattle.std.specs.Arc.{arc_value};
@@ -22,7 +22,7 @@ use std::marker::Brand;
 use std::sync::{Arc, Wait};
 use std::thread::Threads;
 
-/// The steps of each worker where the first worker made all steps.
+/// How many steps each worker made, if the first worker made all of them.
 #[tactic(auto, using(crate::proofs::Made::first_set))]
 fn first_makes(alloc: Global, steps: u64, workers: u32) -> Result<Vec<u64>, AllocError>
     requires { 1 ≤ workers }
@@ -33,8 +33,8 @@ fn first_makes(alloc: Global, steps: u64, workers: u32) -> Result<Vec<u64>, Allo
     Ok(worker_steps)
 }
 
-/// A round of which the first of so many workers makes all steps. What that takes is added to the effort, of which
-/// there is none before, if there is one worker or no edit.
+/// A round of which the first of `workers` workers makes all steps. Its turns and compared pages are added to `effort`,
+/// which has no turns before if there is one worker or no edit.
 fn run_by_first<G: Gate>(
     alloc: Global,
     setup: Setup,
@@ -67,7 +67,7 @@ fn run_by_first<G: Gate>(
     })
 }
 
-/// A round and the number of its steps, which alone is read of it, when it is finished.
+/// A finished round, and how many steps it has. No other number of steps is read of it.
 fn with_last(alloc: Global, worked: ClosedRound) -> Result<(ClosedRound, Vec<u64>), AllocError>
     ensures same { IfOk result (λ r. r.0 ≡ worked) }
     ensures last { IfOk result (λ r. r.1.items ≡ length worked.round.schedule ∷ []) }
@@ -77,8 +77,8 @@ fn with_last(alloc: Global, worked: ClosedRound) -> Result<(ClosedRound, Vec<u64
     Ok((worked, numbers))
 }
 
-/// A round that several workers made if it has an end. If it has none, and memory didn't run out, it is made anew by
-/// the first of them.
+/// The round of an unfinished one's setup and history, of which the first worker makes all steps. If the unfinished one
+/// was stopped, the host's memory ran out, which is an error.
 fn run_anew<G: Gate>(
     alloc: Global,
     unfinished: ClosedRound,
@@ -107,8 +107,8 @@ fn run_anew<G: Gate>(
     run_by_first(alloc, setup, past, workers, gate, effort)
 }
 
-/// A round that so many workers made together until it was finished, or until the host's memory ran out.
-// Its frame holds rounds by value, and stands by itself, so that it isn't added to its caller's.
+/// A round that `workers` workers made together until it was finished, or until the host's memory ran out.
+// Not inlined, since its frame holds rounds by value, and would be added to its caller's.
 #[inline(never)]
 fn run_together<J: Naming + Send + Sync, R: Threads + Wait + Sync, G: Gate + Sync>(
     rt: &R,
@@ -133,17 +133,17 @@ fn run_together<J: Naming + Send + Sync, R: Threads + Wait + Sync, G: Gate + Syn
     Ok(board.close(passes))
 }
 
-/// A round that so many workers make, and how many of its steps each of them made, in their order. It has an end. One
-/// worker makes it without a lock and without the gate, and discards nothing. By a sound history each entry was picked
-/// rightly: its thread was due, or nobody was. However many the workers are, they execute again no more than they must;
-/// and without an edit it is all reuse of the history, and nothing is discarded. The counter of turns that comes with
-/// it has those of the executed steps if there is one worker, and 0 without an edit; and without an edit since a
-/// history that holds together, honest or not, no page was compared.
+/// A round that `workers` workers make, and how many of its steps each of them made, in their order. It has an end. One
+/// worker makes it without a lock, doesn't enter the gate, and discards nothing. If the history is sound, each entry
+/// was picked rightly: its thread was due, or no thread was. With any number of workers, a round that works as its
+/// history did executes no more than its setup reaches. Without an edit it only reuses the history, and nothing is
+/// discarded. The returned effort has the turns of the executed steps if there is one worker, and 0 turns without an
+/// edit. Without an edit since a coherent history, honest or not, no page was compared.
 ///
 /// # Errors
 ///
-/// An error where the host's memory ran out.
-// Its frame holds rounds by value, and stands by itself, so that it isn't added to its caller's.
+/// An error if the host's memory ran out.
+// Not inlined, since its frame holds rounds by value, and would be added to its caller's.
 #[inline(never)]
 pub fn run_round<R: Threads + Wait + Sync, G: Gate + Sync>(
     rt: &R,
@@ -179,13 +179,13 @@ pub fn run_round<R: Threads + Wait + Sync, G: Gate + Sync>(
     run_anew(alloc, worked, workers, gate)
 }
 
-/// A round as `run_round` makes it, and the numbers of steps that were read meanwhile: they ascend, and the last is how
-/// many steps it has. Of one worker that number alone is read.
+/// A round as `run_round` makes it, and the numbers of steps that were read meanwhile. They ascend, and the last is how
+/// many steps the round has. If there is one worker, only that number is read.
 ///
 /// # Errors
 ///
-/// An error where the host's memory ran out.
-// Its frame holds rounds by value, and stands by itself, so that it isn't added to its caller's.
+/// An error if the host's memory ran out.
+// Not inlined, since its frame holds rounds by value, and would be added to its caller's.
 #[inline(never)]
 pub fn run_round_watched<R: Threads + Wait + Sync, G: Gate + Sync>(
     rt: &R,

@@ -1,4 +1,4 @@
-//! A round that workers make while somebody watches how many steps there are.
+//! A round that workers make while a watcher reads how many steps it has.
 
 ghost use Rattle.std.specs.Prelude.{◌≡◌, ◌<◌, ◌≤◌, ◌+◌, All, [], length, vec_len, vec_capacity, Some, None, IfOk};
 ghost use Rattle.std.specs.Thread.{IsSync};
@@ -19,7 +19,7 @@ use std::sync::Wait;
 use std::sync::atomic::{AtomicBool, Ordering};
 use std::thread::{Threads, join};
 
-/// Room for the numbers that a watcher reads, and for his watch when it is given back.
+/// Room for the numbers that a watcher reads, and for its watch when it is returned.
 fn room_to_watch<J: Naming>(alloc: Global) -> Result<(Vec<u64>, Vec<Watch<J>>), AllocError>
     ensures numbers { IfOk result (λ room. (room.0.items ≡ [])
         × (MOST_LOOKS + 1 ≤ vec_capacity room.0)) }
@@ -30,8 +30,8 @@ fn room_to_watch<J: Naming>(alloc: Global) -> Result<(Vec<u64>, Vec<Watch<J>>), 
     Ok((numbers, watches))
 }
 
-/// Workers make the round on the board, of which each has one of the passes, and a watcher looks meanwhile how many
-/// steps it has. His watch comes back with the numbers that he read, and so do the passes.
+/// Workers make the round on the board, each with one of the passes. Meanwhile a watcher reads how many steps it has.
+/// Returns the watch, the numbers that were read, and the passes.
 fn work_watched<J: Naming + Send + Sync, R: Threads + Wait + Sync, G: Gate + Sync>(
     rt: &R,
     board: &Board<J>,
@@ -72,9 +72,9 @@ fn work_watched<J: Naming + Send + Sync, R: Threads + Wait + Sync, G: Gate + Syn
     (seat, numbers, passes)
 }
 
-/// A round that so many workers made together until it was finished, or until the host's memory ran out, and the
-/// numbers of its steps that a watcher read meanwhile, of which the last is all of them.
-// Its frame holds rounds by value, and stands by itself, so that it isn't added to its caller's.
+/// A round that `workers` workers made together until it was finished, or until the host's memory ran out, and the
+/// numbers of steps that a watcher read meanwhile. The last is how many steps the round has.
+// Not inlined, since its frame holds rounds by value, and would be added to its caller's.
 #[inline(never)]
 pub(super) fn run_watched<J: Naming + Send + Sync, R: Threads + Wait + Sync, G: Gate + Sync>(
     rt: &R,

@@ -1,4 +1,4 @@
-//! Who watches a round: a word counts its steps, and a watch reads the word without a lock.
+//! Watching a round: a word counts its steps, and a watch reads the word without a lock.
 
 ghost use Rattle.std.specs.Prelude.{◌≡◌, ◌+◌, ◌<◌, ◌≤◌, All, [], vec_len, vec_capacity, Some, None, IfOk};
 ghost use Rattle.std.specs.Arc.{arc_value};
@@ -18,7 +18,7 @@ use std::sync::Arc;
 use std::sync::atomic::{AtomicBool, Ordering};
 use std::thread::yield_now;
 
-/// The word that counts the steps of a watched round, and the seat that alone may raise it.
+/// The word that counts the steps of a watched round, and the only seat that may raise it.
 #[derive(Drop)]
 pub struct Counter {
     word: Arc<Word>,
@@ -26,21 +26,21 @@ pub struct Counter {
     ghost own: { writer.table ≡ arc_value word },
 }
 
-/// A round before its first step, and what is to count its steps.
+/// A round before its first step, and the counter of its steps.
 #[derive(Drop)]
 pub struct WatchedRound {
     /// The round.
     pub round: Round,
-    /// What is to count its steps, and has counted none.
+    /// The counter of its steps, which has counted none.
     pub counter: Counter,
 }
 
 impl Counter {
-    /// A word of its own, which has counted no step.
+    /// A counter with its own word, which has counted no step.
     ///
     /// # Errors
     ///
-    /// An error where the host's memory ran out.
+    /// An error if the host's memory ran out.
     pub fn new(alloc: Global) -> Result<Counter, AllocError>
         ensures { IfOk result (λ counter. counter.writer.added ≡ 0) }
     {
@@ -49,7 +49,7 @@ impl Counter {
         Ok(Counter { word, writer })
     }
 
-    /// Counts one step more.
+    /// Counts one more step.
     pub(super) fn add(&mut self)
         requires { self.old.writer.added < MOST_STEPS }
         ensures added { self.new.writer.added ≡ self.old.writer.added + 1 }
@@ -63,7 +63,7 @@ impl Counter {
     ///
     /// # Errors
     ///
-    /// An error where the host's memory ran out.
+    /// An error if the host's memory ran out.
     pub(super) fn split<J: Naming>(&mut self) -> Result<Watch<J>, AllocError>
         requires { self.old.writer.table ≡ J.table }
         ensures added { self.new.writer.added ≡ self.old.writer.added }
@@ -80,7 +80,7 @@ impl Counter {
         })
     }
 
-    /// Takes a watch back: what it has seen the writer has seen too.
+    /// Takes a watch back. The writer then has seen all that the watch has seen.
     pub(super) fn join<J: Naming>(&mut self, watch: Watch<J>)
         requires { self.old.writer.table ≡ J.table }
         ensures added { self.new.writer.added ≡ self.old.writer.added }
@@ -125,7 +125,7 @@ impl<J: Naming> Watch<J> {
     }
 }
 
-/// Adds a number that was read if it is more than the last one.
+/// Appends a number that was read, if it is greater than the last one.
 pub(super) fn note(numbers: &mut Vec<u64>, number: u64)
     requires room { vec_len numbers.old < vec_capacity numbers.old }
     requires ascends { IsStrictlyIncreasing numbers.old.items }
@@ -143,7 +143,7 @@ pub(super) fn note(numbers: &mut Vec<u64>, number: u64)
     }
 }
 
-/// Lets other threads run for a while, which is longer after each look, or until the round is finished.
+/// Lets other threads run for a while, longer after each look, or until the round is finished.
 fn pause(looks: usize, over: &AtomicBool) {
     for _ in 0..looks {
         if over.load(Ordering::Relaxed) {
@@ -153,8 +153,8 @@ fn pause(looks: usize, over: &AtomicBool) {
     }
 }
 
-/// Looks how many steps of the round on the board were made, at most so often and until the round is finished, and
-/// keeps the numbers that differ.
+/// Reads how many steps of the round on the board were made, at most `MOST_LOOKS` times and until the round is
+/// finished, and keeps the numbers that differ.
 pub(super) fn watch_round<J: Naming>(
     board: &Board<J>,
     mut watch: Watch<J>,

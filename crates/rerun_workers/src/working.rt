@@ -1,4 +1,4 @@
-//! A worker: it is told what to do, executes, and hands in what came of it.
+//! A worker: it asks what to do, executes a step, and submits the run.
 
 ghost use Rattle.std.specs.Prelude.{◌≡◌, ◌≢◌, ◌+◌, ◌<◌, ◌≤◌, Some, length, IfOk};
 ghost use Rattle.std.specs.Arc.{arc_value};
@@ -22,7 +22,7 @@ use std::thread;
 use std::thread::Threads;
 use thunk_run::{Job, Run, Watch, execute_watched};
 
-/// Who looks while a worker's step runs long whether there is something for another worker, and wakes it.
+/// Looks, when a worker's step runs long, whether there is something for another worker, and wakes one.
 #[derive(Drop)]
 struct Sharing<'a, J: Naming, R: Wait> {
     rt: &'a R,
@@ -35,8 +35,8 @@ impl<'a, J: Naming, R: Wait> Watch for Sharing<'a, J, R> {
     }
 }
 
-/// Runs the thunk of a job, under a watch, for a worker that has executed fewer steps than it was told to begin. The
-/// counter of its pass counts the turns.
+/// Runs the thunk of a job, under a watch, for a worker that has executed fewer steps than it was assigned. The counter
+/// of its pass counts the turns.
 fn run_job<J: Naming, W: Watch>(
     alloc: Global,
     job: &Job,
@@ -56,7 +56,7 @@ fn run_job<J: Naming, W: Watch>(
     execute_watched(alloc, job, &mut effort.turns, watch)
 }
 
-/// Executes a job of the round past the gate, and hands in what came of it. The answer is whether the worker goes on.
+/// Passes the gate, executes a job of the round, and submits the run. Returns whether the worker continues.
 fn make_step<J: Naming, R: Wait, G: Gate>(
     rt: &R,
     alloc: Global,
@@ -90,7 +90,7 @@ fn make_step<J: Naming, R: Wait, G: Gate>(
     }
 }
 
-/// What a worker is to do next. What it has reused meanwhile is shown.
+/// What a worker is to do next. The gate is shown how many steps it reused meanwhile.
 fn next_task<J: Naming, R: Wait, G: Gate>(
     rt: &R,
     board: &Board<J>,
@@ -115,9 +115,9 @@ fn next_task<J: Naming, R: Wait, G: Gate>(
     task
 }
 
-/// Makes steps of the round on the board as long as there is nothing to share. The answer is whether there is: the pass
-/// holds then the step that it is to execute first, and another worker has something to do meanwhile. There never is
-/// where the round is finished or the host's memory ran out.
+/// Makes steps of the round on the board as long as there is nothing to share. Returns whether there is: then the pass
+/// holds the step that its worker is to execute first, and another worker has something to do meanwhile. If the round
+/// is finished or the host's memory ran out, there is nothing to share.
 pub(super) fn make_unshared<J: Naming, R: Wait, G: Gate>(
     rt: &R,
     alloc: Global,
@@ -143,10 +143,10 @@ pub(super) fn make_unshared<J: Naming, R: Wait, G: Gate>(
     false
 }
 
-/// Makes steps of the round on the board until it is finished or the host's memory runs out: takes what it is told to,
-/// passes the gate, executes it with no lock held, and hands it in. A step that was begun for it comes first. Its pass
-/// counts the steps that it makes, never fewer than before, and the turns that it executes; it can't make another
-/// counter.
+/// Makes steps of the round on the board until it is finished or the host's memory runs out: asks for a step, passes
+/// the gate, executes the step with no lock held, and submits it. A step that its pass already holds comes first. The
+/// pass counts the steps that the worker makes, never fewer than before, and the turns that it executes. The worker
+/// can't create another counter.
 pub fn work<J: Naming, R: Wait, G: Gate>(
     rt: &R,
     alloc: Global,
@@ -172,8 +172,8 @@ pub fn work<J: Naming, R: Wait, G: Gate>(
     }
 }
 
-/// So many workers make the round on the board, of which each has one of the passes. As long as there is nothing to
-/// share no thread is started: never, if a round only reuses.
+/// Workers make the round on the board together, each with one of the passes. No thread is started as long as there is
+/// nothing to share: none at all, if the round only reuses.
 pub(super) fn work_together<J: Naming + Send + Sync, R: Threads + Wait + Sync, G: Gate + Sync>(
     rt: &R,
     alloc: Global,

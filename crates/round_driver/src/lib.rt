@@ -50,7 +50,7 @@ impl Driven {
         })
     }
 
-    /// Takes the next step of thread `t`, where it can be taken.
+    /// Takes the next step of thread `t`, if it can be taken.
     fn on_take(&mut self, t: u8, compared: &mut Compared) -> Result<(), AllocError>
         ensures round { OnOk result (self.new.round ≡ happens self.old.round (event.Take t)) }
         ensures valid { IsValid self.old.round }
@@ -64,7 +64,7 @@ impl Driven {
         Ok(())
     }
 
-    /// Reuses the record of the next step of thread `t`, where it can be reused.
+    /// Reuses the record of the next step of thread `t`, if it can be reused.
     fn on_reuse(&mut self, t: u8, compared: &mut Compared) -> Result<(), AllocError>
         ensures round { OnOk result (self.new.round ≡ happens self.old.round (event.Reuse t)) }
         ensures valid { IsValid self.old.round }
@@ -75,8 +75,8 @@ impl Driven {
         self.round.reuse(t)
     }
 
-    /// Executes and commits the job that is in flight for thread `t`, if one is. After the round is finished it
-    /// is discarded. The counter rises by the instructions that it made.
+    /// Executes and commits the job that is in flight for thread `t`, if one is. If the round is finished, the job is
+    /// discarded. The counter rises by the instructions that it made.
     fn on_commit(&mut self, alloc: Global, t: u8, turns: &mut Turns) -> Result<(), AllocError>
         ensures round { OnOk result (self.new.round ≡ happens self.old.round (event.Commit t)) }
         ensures cost { OnOk result (Costs turns.old self.old.round turns.new self.new.round) }
@@ -146,16 +146,16 @@ impl Driven {
     }
 }
 
-/// The round of a setup that goes by a history, after some events, one after the other. A step that
-/// is committed is executed then, by the job that was taken; an event whose condition doesn't hold
-/// changes nothing. The counter of turns rises by the instructions of the executed steps. Where the history is
-/// sound, the round is at the machine from scratch, and its marks are exact. Where the setup is the
-/// history's own, and the events reuse its steps in any order in which each comes after all that must
-/// come before it, all of them are reused, and come to the same end, output and memory.
+/// The round of a setup, based on a history if there is one, after some events, one after the other. A step is executed
+/// when it is committed, by the job that was taken. An event whose condition doesn't hold changes nothing. The counter
+/// of turns rises by the instructions of the executed steps. If the history is sound, the round's machine is the one
+/// from scratch, and its marks are exact. If the setup is also the history's own, and the events reuse its steps in any
+/// order in which each comes after all that must come before it, all of them are reused, and come to the same end,
+/// output and memory.
 ///
 /// # Errors
 ///
-/// An error where the host's memory ran out; the counters may have risen, and are never lower.
+/// An error if the host's memory ran out; the counters may have risen, and are never lower.
 pub fn drive(
     alloc: Global,
     setup: Setup,

@@ -1,4 +1,4 @@
--- What differs between a thread and the record of its step, and first.
+-- The first difference between a thread and the record of its step.
 use Rattle.std.specs.Prelude.{ℕ, ◌==◌, not, List, find, position, slice_index, slice_set, zip, Option, Some, None}
 use Rattle.std.specs.Str.{bytes_eq}
 use Rattle.isa_spec.specs.Registers.{Registers}
@@ -9,7 +9,7 @@ use Rattle.machine_spec.specs.Machine.{Hart}
 use Rattle.round_report.specs.declared.why.reason.Cause.{Cause}
 use Rattle.round_report.specs.declared.why.reason.Cause.TheVariants.{NoRecord, Register, Byte}
 
--- The pc and x1 to x31 by their numbers, where the pc has the number 0.
+-- The pc and x1 to x31 by their numbers; the pc has the number 0.
 abbrev pub numbered : Registers → List ℕ
 numbered r = slice_set r.x 0 r.pc
 
@@ -17,7 +17,7 @@ numbered r = slice_set r.x 0 r.pc
 abbrev pub first_difference : List ℕ → List ℕ → Option ℕ
 first_difference now was = position (λ p. not (p.0 == p.1)) (zip now was)
 
--- The first of some read pages whose bytes a view hasn't.
+-- The first of some read pages whose bytes differ from a view's.
 abbrev pub first_other_page : Memory → List ReadPage → Option ReadPage
 first_other_page view reads = find (λ (p : ReadPage). not (bytes_eq (page_of view p.slot) p.bytes)) reads
 
@@ -39,14 +39,14 @@ page_cause addresses stored view (Some p) =
     byte_cause (slice_index addresses p.slot) (stored p.slot) (page_of view p.slot) p.bytes
     (first_difference (page_of view p.slot) p.bytes)
 
--- The first of two causes that there is.
+-- The first of two causes, or the second if there is no first.
 abbrev pub first_cause : Option Cause → Option Cause → Option Cause
 first_cause (Some cause) other = Some cause
 first_cause None other = other
 
--- Why a record doesn't stand for the next step of a hart: there is none; or else the least register that differs from
--- the record's first registers; or else the least byte that differs of the least read page that does. Pages are told by
--- their addresses; for each byte, by slot and place, there is the entry that stored it.
+-- Why a record can't be reused for the next step of a hart: there is none; or else the least register that differs from
+-- the record's first registers; or else the first byte that differs in the first read page that differs. Pages are
+-- named by their addresses. `stored` has the entry that stored each byte, by slot and place.
 abbrev pub cause_of : List ℕ → (ℕ → ℕ → Option ℕ) → Hart → Option Record → Option Cause
 cause_of addresses stored h None = Some NoRecord
 cause_of addresses stored h (Some r) =

@@ -12,15 +12,15 @@ counts_part schedule =
     ++ line (codes "reused") (decimal (reused_count schedule))
     ++ line (codes "executed") (decimal (executed_count schedule))
 
--- How it ended, after how many steps, and how many old steps are reached, where that is told.
+-- How it ended, after how many steps, and how many old steps are reached, if that is reported.
 abbrev pub steps_part : ReportData → List ℕ
 steps_part t =
     line (codes "end") (ending_text t.ending)
     ++ counts_part t.schedule
     ++ concat (reached_lines t.extras.reached)
 
--- The work: instructions, how many steps each worker made, what was read of the progress, where that is told, and the
--- schedule.
+-- The work: instructions, how many steps each worker made, the numbers of steps that a watcher read, if they are
+-- reported, and the schedule.
 abbrev pub work_part : ReportData → List ℕ
 work_part t =
     line (codes "instructions") (decimal t.instructions)
@@ -35,7 +35,7 @@ run_part t =
     ++ line (codes "steps") (decimal (length t.schedule))
     ++ line (codes "instructions") (decimal t.instructions)
 
--- What came of it: the memory's digest, and the output.
+-- The result: the memory's digest, and the output.
 abbrev pub outcome_part : ReportData → List ℕ
 outcome_part t =
     line (codes "memory") (memory_digest t.memory)

@@ -25,12 +25,12 @@ cause_at before w i t =
     cause_of (addresses_of w.setup) (last_store w.records (view_since before (threads_of w.schedule) i t))
     (hart_of (before i) t) (record_for w.past (before i) t)
 
--- Of which step this is the cause.
+-- A cause, and the step that it is of.
 abbrev pub told_of_step : (ℕ → Machine) → ℕ → ℕ → Cause → Reason
 told_of_step before i t cause =
     record { step = i; thread = t; number = (hart_of (before i) t).number; cause = cause }
 
--- The reason of an entry: none where it is reused.
+-- The reason of an entry: none if it is reused.
 abbrev pub reason_of : (ℕ → Machine) → RoundState → ℕ → Option Entry → Option Reason
 reason_of before w i None = None
 reason_of before w i (Some e) = if e.reused then None else option_map (told_of_step before i e.thread) (cause_at before w i e.thread)
@@ -52,13 +52,13 @@ is_executed (Some e) = not e.reused
 abbrev pub executed_places : List Entry → List ℕ
 executed_places schedule = filter (λ i. is_executed (slice_get schedule i)) (range_with_len 0 (length schedule))
 
--- A history holds together, and is of the program and the fuel of a setup.
+-- A history is coherent, and is of the program and the fuel of a setup.
 pub record IsOldRun (h : History) (setup : Setup) : Type 0 where
   pub coherent : is_coherent h ≡ true
   pub program : IsSameProgram h.setup setup
   pub fuel : h.setup.fuel ≡ setup.fuel
 
--- What a round goes by, if anything, is such a history.
+-- The history that a round is based on, if any, is such a history.
 abbrev pub GoesByOldRun : Option History → Setup → Type 0
 GoesByOldRun None setup = ⊤
 GoesByOldRun (Some h) setup = IsOldRun h setup

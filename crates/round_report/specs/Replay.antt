@@ -1,4 +1,4 @@
--- What a replay tells of a run.
+-- The text of a replay.
 use Rattle.std.specs.Prelude.{ℕ, List, [], ◌∷◌, ◌++◌, length, codes, decimal}
 use Rattle.std.specs.List.{concat}
 use Rattle.machine_spec.specs.Setup.{Setup}
@@ -6,7 +6,7 @@ use Rattle.report_spec.specs.Text.{newline, line}
 use Rattle.report_spec.specs.Report.{ReportData, no_extras, ending_text, memory_digest, data_of}
 use Rattle.rerun_spec.specs.Reports.{all_executed}
 
--- The lines that tell of a replay: of a report those that no reuse and no worker can change.
+-- The lines of a replay: those of a report that neither reuse nor workers change if each step is executed.
 abbrev pub replay_lines : ReportData → List (List ℕ)
 replay_lines t =
     (codes "replay" ++ newline)
@@ -17,10 +17,10 @@ replay_lines t =
     ∷ line (codes "output") (decimal (length t.output))
     ∷ []
 
--- The text that tells of a replay: its lines, the output's bytes, and a line's end.
+-- The text of a replay: its lines, the output's bytes, and a newline.
 unfoldable pub replay_text : ReportData → List ℕ
 replay_text t = concat (replay_lines t) ++ t.output ++ newline
 
--- The text that tells of the machine from scratch under a schedule, of which each step is executed.
+-- The text of a replay of the machine from scratch under a schedule: each step is executed.
 abbrev pub replay_of : Setup → List ℕ → List ℕ
 replay_of setup threads = replay_text (data_of setup (all_executed threads) no_extras [])

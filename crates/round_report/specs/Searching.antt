@@ -1,4 +1,4 @@
--- What is remembered of searches.
+-- The remembered searches.
 use Rattle.std.specs.Prelude.{◌≡◌, ◌<◌, All, List, length}
 use Rattle.thunk_spec.specs.Record.{Record}
 use Rattle.round_spec.specs.Rounds.{RoundState}

@@ -1,4 +1,4 @@
--- A round in one line: how it ended, and what it put out.
+-- A round in one line: how it ended, and its output.
 use Rattle.std.specs.Prelude.{ℕ, List, ◌++◌, codes, decimal}
 use Rattle.hex.specs.Hex.{encode_lower}
 use Rattle.report_spec.specs.Text.{space, line}
@@ -6,7 +6,7 @@ use Rattle.report_spec.specs.Report.{ReportData, no_extras, ending_text, data_of
 use Rattle.rerun_spec.specs.Rounds.{Round, made, entries_of}
 use Rattle.rerun_spec.specs.Reports.{data_as_made}
 
--- What the line says behind its first word: the round's number, its end, and its output in lower-case hexadecimal.
+-- The line after its first word: the round's number, its end, and its output in lower-case hexadecimal.
 abbrev pub short_words : ℕ → ReportData → List ℕ
 short_words n t =
     decimal n ++ space ++ codes "end" ++ space ++ ending_text t.ending ++ space ++ codes "output" ++ space
@@ -20,6 +20,6 @@ short_text n t = line (codes "round") (short_words n t)
 abbrev pub short_of : Round → List ℕ
 short_of r = short_text r.number (data_of r.setup (entries_of r) no_extras r.found.worker_steps)
 
--- The line of a round as it was made, by whatever history it went.
+-- The line of a round as it was made, whatever history it is based on.
 abbrev pub made_short : Round → List ℕ
 made_short r = short_text r.number (data_as_made (made r) no_extras r.found.worker_steps)

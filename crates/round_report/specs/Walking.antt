@@ -7,7 +7,7 @@ use Rattle.round_spec.specs.Rounds.{RoundState}
 use Rattle.round_report.specs.Storing.{view_since}
 use Rattle.round_report.specs.Reasons.{made_before}
 
--- A machine is that of a round before entry i, and for each thread there is how many entries there are up to the one
+-- A machine is that of a round before entry i, and `since` has for each thread how many entries there are up to the one
 -- that gave its view.
 pub record IsBefore (w : RoundState) (m : Machine) (since : List ℕ) (i : ℕ) : Type 0 where
   pub machine : m ≡ made_before w i

@@ -1,20 +1,20 @@
-//! What a report tells.
+//! The data of a report.
 
 use machine_spec::End;
 use page_store::PageTable;
 use report_spec::Entry;
 use std::marker::Model;
 
-/// What a report tells of a round. It borrows all that is long.
+/// The data of a round's report. It borrows all that is long.
 #[derive(Drop)]
 pub struct ReportData<'a> {
     /// How the round ended.
     pub ending: Option<End>,
     /// The round's steps in order, each with its mark.
     pub schedule: &'a [Entry],
-    /// How many steps of the history that the round goes by are reached, where that is told.
+    /// How many steps of the history that the round is based on are reached, if that is reported.
     pub reached: Option<u32>,
-    /// The numbers of steps that a watcher read while the round was made, where they are told.
+    /// The numbers of steps that a watcher read during the round, if they are reported.
     pub progress: Option<&'a [u64]>,
     /// How many instructions the executed steps made.
     pub instructions: u64,
@@ -22,7 +22,7 @@ pub struct ReportData<'a> {
     pub worker_steps: &'a [u64],
     /// Shared memory after the last step.
     pub memory: &'a PageTable,
-    /// All bytes that the guest put out.
+    /// All bytes of the guest's output.
     pub output: &'a [u8],
 }
 

@@ -13,8 +13,8 @@ use sha2::{Digest, Sha256};
 use std::alloc::{AllocError, Global};
 use std::marker::Model;
 
-/// A memory and its digest: a later report of the same memory takes the digest from here, since to
-/// compare two memories takes far less time than to digest one. A clause sees the memory.
+/// A memory and its digest. A later report of the same memory takes the digest from here: to compare two memories takes
+/// far less time than to digest one. A clause sees the memory.
 #[derive(Drop)]
 pub struct Digested {
     memory: PageTable,
@@ -52,7 +52,7 @@ impl Digested {
         &self.digest
     }
 
-    /// Whether it is of this memory.
+    /// Whether it holds this memory.
     pub(super) fn is_of(&self, memory: &PageTable) -> bool
         ensures { Decides result (self.now ≡ memory.now) }
     {

@@ -10,7 +10,7 @@ use ith_text::{decimal, hex8};
 use machine_spec::End;
 use std::alloc::{AllocError, Global};
 
-/// Appends the line of the end, which names none where there is none.
+/// Appends the line of the end, which names none if there is none.
 pub fn end_line(alloc: Global, ending: Option<End>, into: &mut Vec<u8>) -> Result<(), AllocError>
     ensures { OnOk result (into.new.items
         ≡ into.old.items ++ line (codes "end") (ending_text ending)) }
@@ -21,7 +21,7 @@ pub fn end_line(alloc: Global, ending: Option<End>, into: &mut Vec<u8>) -> Resul
     Ok(())
 }
 
-/// Appends the end in words, where there is one.
+/// Appends the end in words, if there is one.
 pub fn append_ending(
     alloc: Global,
     ending: Option<End>,

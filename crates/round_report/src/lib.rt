@@ -1,4 +1,4 @@
-//! The report of a round as text, a round in one line, what a replay tells, and why steps were executed.
+//! The report of a round as text, a round in one line, the text of a replay, and why steps were executed.
 #![tactic(auto)]
 
 mod data;

@@ -1,6 +1,6 @@
 //! The lines of a report, each appended to a text.
 //!
-//! Where memory is wanting, a part of the line may stand there: the text is then thrown away.
+//! If memory runs out, a part of the line may have been appended: the text is then dropped.
 
 ghost use Rattle.std.specs.Prelude.{◌≡◌, [], ◌∷◌, ◌++◌, codes, option_map, OnOk, decimal};
 ghost use Rattle.std.specs.List.{concat};
@@ -49,7 +49,7 @@ pub fn count_lines(alloc: Global, schedule: &[Entry], into: &mut Vec<u8>) -> Res
     Ok(())
 }
 
-/// Appends the line that tells how many old steps are reached, where that is told.
+/// Appends the line of how many old steps are reached, if that is reported.
 pub fn reached_line(
     alloc: Global,
     reached: Option<u32>,
@@ -89,7 +89,7 @@ pub fn worker_steps_line(
     ith_text::list(alloc, "by", worker_steps, into)
 }
 
-/// Appends the line of the numbers of steps that a watcher read, where that is told.
+/// Appends the line of the numbers of steps that a watcher read, if they are reported.
 pub fn progress_line(
     alloc: Global,
     progress: Option<&[u64]>,

@@ -16,7 +16,7 @@ use std::alloc::{AllocError, Global};
 ///
 /// # Errors
 ///
-/// An error where the host's memory ran out.
+/// An error if the host's memory ran out.
 #[tactic(auto, unfolding(crate::specs::Short::short_text))]
 pub fn short(alloc: Global, number: u64, told: &ReportData<'_>) -> Result<Vec<u8>, AllocError>
     ensures { IfOk result (λ text. text.items ≡ short_text number told.now) }

@@ -1,4 +1,4 @@
-//! What a replay tells.
+//! The text of a replay.
 
 ghost use Rattle.std.specs.Prelude.{◌≡◌, ◌++◌, IfOk, OnOk};
 ghost use Rattle.round_report.specs.Parts.{run_part};
@@ -11,7 +11,7 @@ use super::lines::number_line;
 use super::report::append_outcome;
 use std::alloc::{AllocError, Global};
 
-/// Appends how it ended, after how many steps, and how many instructions they made.
+/// Appends how the run ended, after how many steps, and how many instructions they made.
 fn append_run(alloc: Global, told: &ReportData<'_>, into: &mut Vec<u8>) -> Result<(), AllocError>
     ensures { OnOk result (into.new.items ≡ into.old.items ++ run_part told.now) }
 {
@@ -20,12 +20,12 @@ fn append_run(alloc: Global, told: &ReportData<'_>, into: &mut Vec<u8>) -> Resul
     number_line(alloc, "instructions", told.instructions, into)
 }
 
-/// The text that tells of a replay: of the report's lines those that no reuse and no worker can change, the output's
-/// bytes, and a line's end.
+/// The text of a replay: those lines of a report that neither reuse nor workers change if each step is executed, the
+/// output's bytes, and a newline.
 ///
 /// # Errors
 ///
-/// An error where the host's memory ran out.
+/// An error if the host's memory ran out.
 pub fn replayed(alloc: Global, told: &ReportData<'_>) -> Result<Vec<u8>, AllocError>
     ensures { IfOk result (λ text. text.items ≡ replay_text told.now) }
 {
@@ -33,7 +33,7 @@ pub fn replayed(alloc: Global, told: &ReportData<'_>) -> Result<Vec<u8>, AllocEr
     replayed_with(alloc, told, &digested)
 }
 
-/// The text, where the memory's digest is at hand.
+/// The text, by the memory's digest.
 fn replayed_with(
     alloc: Global,
     told: &ReportData<'_>,

@@ -12,12 +12,12 @@ use super::lines::{
 };
 use std::alloc::{AllocError, Global};
 
-/// The report of a round of this number: its lines, the output's bytes, and a line's end. The digest
-/// of the memory is kept for the next report, and taken from the last one where memory is the same.
+/// The report of a round of this number: its lines, the output's bytes, and a newline. The digest of the memory is kept
+/// for the next report, and taken from the last one if memory is the same.
 ///
 /// # Errors
 ///
-/// An error where the host's memory ran out. What was kept is then as before.
+/// An error if the host's memory ran out. What was kept is then as before.
 pub fn text(
     alloc: Global,
     number: u64,
@@ -39,7 +39,7 @@ pub fn text(
     }
 }
 
-/// The report, where the memory's digest is at hand.
+/// The report, by the memory's digest.
 fn text_with(
     alloc: Global,
     number: u64,
@@ -66,8 +66,8 @@ fn append_steps(alloc: Global, told: &ReportData<'_>, into: &mut Vec<u8>) -> Res
     reached_line(alloc, told.reached, into)
 }
 
-/// Appends the instructions, how many steps each worker made, what was read of the progress, where that is told, and
-/// the schedule.
+/// Appends the instructions, how many steps each worker made, the numbers of steps that a watcher read, if they are
+/// reported, and the schedule.
 fn append_work(alloc: Global, told: &ReportData<'_>, into: &mut Vec<u8>) -> Result<(), AllocError>
     ensures { OnOk result (into.new.items ≡ into.old.items ++ work_part told.now) }
 {
@@ -77,7 +77,7 @@ fn append_work(alloc: Global, told: &ReportData<'_>, into: &mut Vec<u8>) -> Resu
     schedule_line(alloc, told.schedule, into)
 }
 
-/// Appends the memory's digest, the output's length, its bytes, and a line's end.
+/// Appends the memory's digest, the output's length, its bytes, and a newline.
 pub(super) fn append_outcome(
     alloc: Global,
     told: &ReportData<'_>,

@@ -1,4 +1,4 @@
--- One worker that goes by an earlier history: its schedule, its round, and which steps it begins to execute.
+-- One worker whose round is based on a history, or on none: its schedule, its round, and the steps that it executes.
 use Rattle.std.specs.Prelude.{ℕ, zero, suc, List, [], ◌∷◌, ◌++◌, Option}
 use Rattle.machine_spec.specs.Machine.{Machine}
 use Rattle.machine_spec.specs.Step.{step}
@@ -11,7 +11,7 @@ use Rattle.round_spec.specs.declared.events.Pick.TheVariants as pick
 use Rattle.round_spec.specs.Rounds.{RoundState, none_in_flight, opening, happens}
 use Rattle.round_spec.specs.Choice.{choice_by, pick_of}
 
--- The schedule that follows the choice with nobody in flight until an end, for so many steps at most.
+-- The schedule that follows the choice with no thread in flight, until an end, for so many steps at most.
 abbrev pub guided_from : Option History → ℕ → Machine → List ℕ
 guided_from past zero m = []
 guided_from past (suc steps) m =
@@ -21,7 +21,7 @@ guided_from past (suc steps) m =
 abbrev pub one_worker : Setup → Option History → List ℕ
 one_worker setup past = guided_from past setup.limit (first setup)
 
--- A round of one worker after it did what it picked: a record was reused, or a step taken and committed.
+-- A round of one worker after a pick: a record is reused, or a step is taken and committed, or nothing changes.
 abbrev pub after_pick : RoundState → Pick → RoundState
 after_pick w (pick.Reuse t) = happens w (Reuse t)
 after_pick w (pick.Run t) = happens (happens w (Take t)) (Commit t)
@@ -37,14 +37,14 @@ after_picks (suc n) w = after_picks n (after_pick w (pick_of w))
 abbrev pub lone_round : Setup → Option History → RoundState
 lone_round setup past = after_picks setup.limit (opening setup past)
 
--- The thread whose next step a pick begins to execute, if it does.
+-- The thread whose next step a pick executes, if it executes one.
 abbrev pub begun_by : Pick → List ℕ
 begun_by (pick.Run t) = t ∷ []
 begun_by (pick.Reuse t) = []
 begun_by pick.Hold = []
 begun_by pick.Over = []
 
--- The threads whose next step one worker begins to execute in so many picks, in order.
+-- The threads whose next step one worker executes in so many picks, in order.
 abbrev pub begun_in : ℕ → RoundState → List ℕ
 begun_in zero w = []
 begun_in (suc n) w = begun_by (pick_of w) ++ begun_in n (after_pick w (pick_of w))

@@ -23,8 +23,8 @@ abbrev pub first_of : List ℕ → Option ℕ
 first_of [] = None
 first_of (t ∷ threads) = Some t
 
--- Of some threads the one of the least place in the history, where those that aren't in it come last; of these the one
--- that has made the fewest steps, and of these the lowest.
+-- Of some threads, the first of those that have made the fewest steps among those whose next step has the least place
+-- in the history; a step that isn't there comes last.
 unfoldable pub best : Option History → Machine → List ℕ → Option ℕ
 best past m threads = first_of (least_by (λ t. (hart_of m t).number) (least_by (place_in past m) threads))
 
@@ -32,18 +32,19 @@ best past m threads = first_of (least_by (λ t. (hart_of m t).number) (least_by 
 abbrev pub is_any_in_flight : List Bool → Bool
 is_any_in_flight in_flight = list_any (λ flag. flag) in_flight
 
--- Who may be chosen: the free threads that are due; where none is due and nobody is in flight, every free thread.
+-- The threads that may be chosen: the free threads that are due, or, if none is due and no thread is in flight, every
+-- free thread.
 abbrev pub eligible : List ℕ → List ℕ → Bool → List ℕ
 eligible (t ∷ due) free any_out = t ∷ due
 eligible [] free true = []
 eligible [] free false = free
 
--- The thread that is chosen by a history, if one is.
+-- The thread that is chosen, based on a history if there is one, if one is chosen.
 unfoldable pub choice_by : Option History → Machine → List Bool → Option ℕ
 choice_by past m in_flight =
     best past m (eligible (filter (is_due past m) (free_threads m in_flight)) (free_threads m in_flight) (is_any_in_flight in_flight))
 
--- What to do with a choice: its record is reused where it fits, and else its step is executed; with no choice, to wait.
+-- What to do with a choice: reuse its record if it fits, else execute its step; without a choice, wait.
 abbrev pub with_choice : Option History → Machine → Option ℕ → Pick
 with_choice past m (Some t) = if fits_next past m t then pick.Reuse t else pick.Run t
 with_choice past m None = pick.Hold

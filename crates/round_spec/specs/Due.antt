@@ -7,7 +7,7 @@ use Rattle.history_spec.specs.Facts.{Fact, facts}
 use Rattle.history_spec.specs.Before.{fact_at, all_below}
 use Rattle.history_spec.specs.Ancestors.{is_ancestor, number_at}
 
--- The place of a thread's next step in the history, and the number of its records where it isn't there.
+-- The place of a thread's next step in the history, or the number of its records if it isn't there.
 abbrev pub place_in : Option History → Machine → ℕ → ℕ
 place_in past m t = position_or_len (is_of t (hart_of m t).number) (past_records past)
 
@@ -20,7 +20,7 @@ abbrev pub past_facts : Option History → List Fact
 past_facts None = []
 past_facts (Some h) = facts h
 
--- Whether the step at a place is a thread's at a number of steps made.
+-- Whether the step at a place is a thread's step of this number.
 abbrev pub is_step_at : List Fact → ℕ → ℕ → ℕ → Bool
 is_step_at fs t number j = ((fact_at fs j).thread == t) && (number_at fs j == number)
 
@@ -33,8 +33,8 @@ is_passed_at fs m a =
 abbrev pub are_passed_before : List Fact → Machine → ℕ → Bool
 are_passed_before fs m j = all_below (λ a. not (is_ancestor fs a j) || is_passed_at fs m a) j
 
--- Whether a thread is due by what the steps of a history do: its next step isn't among them, or each step that must
--- come before it is passed.
+-- Whether a thread is due, by the facts of a history: its next step isn't among them, or each step that must come
+-- before it is passed.
 abbrev pub is_due_by : List Fact → Machine → ℕ → Bool
 is_due_by fs m t =
     all_below (λ j. not (is_step_at fs t (hart_of m t).number j) || are_passed_before fs m j) (length fs)

@@ -1,4 +1,4 @@
--- How many instructions a round has executed, by what it keeps.
+-- How many instructions a round has executed, by its records.
 use Rattle.std.specs.Prelude.{ℕ, ◌+◌, if◌then◌else◌, List, [], ◌∷◌}
 use Rattle.thunk_spec.specs.Record.{Record}
 use Rattle.report_spec.specs.declared.Entry.{Entry}

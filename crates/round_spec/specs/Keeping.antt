@@ -11,7 +11,7 @@ use Rattle.round_spec.specs.Marks.{fits_next, marked, sourced}
 use Rattle.round_spec.specs.Rounds.{RoundState, is_in_flight}
 
 -- A round is at the machine from scratch: its machine is the one after its schedule, which is permitted; its records
--- are those of the steps, that of a reused entry being the history's own; and its marks are exact.
+-- are those of the steps, and the record of a reused entry is the history's own; and its marks are exact.
 pub record IsFromScratch (w : RoundState) : Type 0 where
   pub machine : w.machine ≡ scratch w.setup (threads_of w.schedule)
   pub permitted : is_permitted w.setup (threads_of w.schedule) ≡ true
@@ -19,13 +19,13 @@ pub record IsFromScratch (w : RoundState) : Type 0 where
   pub sources : w.records ≡ sourced w.past w.setup w.schedule
   pub marks : w.schedule ≡ marked w.past w.setup (threads_of w.schedule)
 
--- Who is in flight is ready still, and no record of its next step fits.
+-- A thread in flight is still ready, and no record of its next step fits.
 pub record IsHeld (w : RoundState) (t : ℕ) : Type 0 where
   pub ready : is_ready (hart_of w.machine t).status ≡ true
   pub unfit : fits_next w.past w.machine t ≡ false
 
--- A flag and a length for each of the 32 threads; the machine is one that holds together; who is in flight is held; and
--- by a sound history the round is at the machine from scratch.
+-- There is a flag and a length for each of the 32 threads; the machine is whole; each thread in flight is held; and if
+-- the history is sound, or there is none, the round is at the machine from scratch.
 pub record IsInOrder (w : RoundState) : Type 0 where
   pub flags : length w.in_flight ≡ 32
   pub lengths : length w.taken_at ≡ 32
@@ -33,8 +33,8 @@ pub record IsInOrder (w : RoundState) : Type 0 where
   pub held : (t : ℕ) → is_in_flight w t ≡ true → IsHeld w t
   pub scratch : IsSound w.past w.setup → IsFromScratch w
 
--- Whether each reused entry of a schedule has as its record the history's own of its thread at the number of entries
--- that come before it, where entries of some threads come first.
+-- There is a record for each entry of a schedule, and that of a reused entry is the history's own of its thread and
+-- number, which is how many entries of the thread come before it, those of the earlier threads included.
 abbrev pub IsReusing : Option History → List ℕ → List Entry → List Record → Type 0
 IsReusing past earlier [] [] = ⊤
 IsReusing past earlier [] (r ∷ records) = ⊥

@@ -8,7 +8,7 @@ use Rattle.machine_spec.specs.Setup.{Setup, first}
 use Rattle.history_spec.specs.History.{History, found}
 use Rattle.report_spec.specs.declared.Entry.{Entry}
 
--- The record of a thread at the number of steps that it has made, if the history has one.
+-- The history's record of a thread's next step, if it has one.
 abbrev pub record_for : Option History → Machine → ℕ → Option Record
 record_for past m t = found past t (hart_of m t).number
 
@@ -21,7 +21,7 @@ is_fitting m (Some r) = fits m r
 abbrev pub fits_next : Option History → Machine → ℕ → Bool
 fits_next past m t = is_fitting m (record_for past m t)
 
--- The entries of a schedule from a machine on: a step is reused exactly where the history's record of it fits.
+-- The entries of a schedule from a machine on: a step is reused exactly if the history's record of it fits.
 abbrev pub marked_from : Option History → Machine → List ℕ → List Entry
 marked_from past m [] = []
 marked_from past m (t ∷ schedule) =
@@ -31,12 +31,12 @@ marked_from past m (t ∷ schedule) =
 abbrev pub marked : Option History → Setup → List ℕ → List Entry
 marked past setup schedule = marked_from past (first setup) schedule
 
--- Where the record of an entry comes from: the history, where the entry is reused, and else the step itself.
+-- The record of an entry: the history's if the entry is reused and there is one, else that of the step itself.
 abbrev pub source_of : Option History → Machine → Entry → Record
 source_of past m e =
     if e.reused then unwrap_or (record_for past m e.thread) (record_of m e.thread) else record_of m e.thread
 
--- The records of the entries of a schedule from a machine on, each from where it comes.
+-- The records of the entries of a schedule from a machine on, each by its source.
 abbrev pub sourced_from : Option History → Machine → List Entry → List Record
 sourced_from past m [] = []
 sourced_from past m (e ∷ schedule) = source_of past m e ∷ sourced_from past (step m e.thread) schedule

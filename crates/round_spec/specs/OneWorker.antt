@@ -1,5 +1,4 @@
--- What one worker makes of a round: a round that is known by its schedule alone, and how many instructions were
--- executed.
+-- What one worker makes: a round that its schedule determines, and how many instructions are executed.
 use Rattle.std.specs.Prelude.{ℕ, zero, suc, ◌+◌, ◌≡◌, ◌≢◌, false, List, length, Option, Some}
 use Rattle.std.specs.List.{range_with_len}
 use Rattle.thunk_spec.specs.Thunk.{thunk}
@@ -15,9 +14,8 @@ use Rattle.round_spec.specs.Choice.{pick_of}
 use Rattle.round_spec.specs.Alone.{one_worker, after_pick, after_picks, lone_round}
 use Rattle.round_spec.specs.Unedited.{OnlyReuses}
 
--- The round whose steps were made under a schedule, where nobody is in flight, nothing was discarded and nobody stopped
--- it: its machine and its records are those from scratch, its marks are exact, and each thread was picked when its turn
--- came.
+-- The round that a schedule makes, with no thread in flight, nothing discarded and no stop: its machine and its records
+-- are those from scratch, its marks are exact, and each entry was picked when the schedule was as long as its place.
 abbrev pub made_by : Setup → Option History → List ℕ → RoundState
 made_by setup past schedule =
     record {
@@ -33,7 +31,7 @@ made_by setup past schedule =
       stopped = false;
     }
 
--- How many instructions a worker executes for what it picked: those of the thunk that it runs, and else none.
+-- How many instructions a worker executes for a pick: those of the thunk that it runs, else none.
 abbrev pub cost_of : RoundState → Pick → ℕ
 cost_of w (pick.Run t) = (thunk w.machine.frame (hart_of w.machine t).view (hart_of w.machine t).regs).count
 cost_of w (pick.Reuse t) = 0
@@ -45,8 +43,8 @@ abbrev pub executed_in : ℕ → RoundState → ℕ
 executed_in zero w = 0
 executed_in (suc n) w = cost_of w (pick_of w) + executed_in n (after_pick w (pick_of w))
 
--- One worker that runs a setup by a history makes the history's schedule, and its round is all reuse of the history: it
--- picks no step to be executed, and executes no instruction.
+-- One worker that runs a setup, based on a history, makes the history's schedule, and its round only reuses the
+-- history: it picks no step to be executed, and executes no instruction.
 pub record ReusesAll (h : History) (setup : Setup) : Type 0 where
   pub threads : one_worker setup (Some h) ≡ schedule_of h
   pub reuses : OnlyReuses h (lone_round setup (Some h))

@@ -1,4 +1,4 @@
--- When the entries of a round were picked rightly, whatever happened between the picking of each and its commit.
+-- Which entries of a round were chosen by the rule, whatever happened between the pick of each and its commit.
 use Rattle.std.specs.Prelude.{◌≡◌, ℕ, ◌≤◌, Bool, true, not, ◌&&◌, ◌||◌, ◌==◌, List, length, take, slice_get, slice_index_or, Option, Some, is_some}
 use Rattle.std.specs.List.{list_any, range_with_len}
 use Rattle.machine_spec.specs.Machine.{Machine, hart_of, is_ready}
@@ -18,9 +18,9 @@ is_ready_and_due past m t = is_ready (hart_of m t).status && is_due past m t
 abbrev pub any_thread : Machine → (ℕ → Bool) → Bool
 any_thread m test = list_any test (range_with_len 0 (length m.harts))
 
--- Whether a thread at a number of steps made is picked rightly on a machine: it is ready at that number; it is due, or
--- nobody who is ready is; and where the history has no record of it, nobody who is ready and due has a record that
--- fits.
+-- Whether a thread's step of this number is chosen by the rule on a machine: the thread is ready at that number; it is
+-- due, or no ready thread is; and if the history has no record of the step, no thread that is ready and due has a
+-- record that fits.
 unfoldable pub is_picked_on : Option History → Machine → ℕ → ℕ → Bool
 is_picked_on past m t number =
     is_ready (hart_of m t).status && ((hart_of m t).number == number)
@@ -31,7 +31,7 @@ is_picked_on past m t number =
 abbrev pub machine_after : Setup → List Entry → ℕ → Machine
 machine_after setup schedule i = scratch setup (threads_of (take i schedule))
 
--- Entry i of a round was picked rightly when there were `length_then` entries: no more than i, and i itself where the
+-- Entry i of a round was chosen by the rule when there were `length_then` entries: no more than i, and i itself if the
 -- entry is reused.
 pub record IsPicked (setup : Setup) (past : Option History) (schedule : List Entry) (i : ℕ) (e : Entry)
     (length_then : ℕ) : Type 0 where
@@ -42,19 +42,19 @@ pub record IsPicked (setup : Setup) (past : Option History) (schedule : List Ent
       (hart_of (machine_after setup schedule i) e.thread).number
       ≡ true
 
--- Each entry of a schedule was picked rightly, when the schedule was as long as the entry's number says.
+-- Each entry of a schedule was chosen by the rule when the schedule was as long as `picked` says for the entry.
 pub record ArePicked (setup : Setup) (past : Option History) (schedule : List Entry) (picked : List ℕ) : Type 0 where
   pub each : length picked ≡ length schedule
   pub rightly :
       (i : ℕ) (e : Entry) → slice_get schedule i ≡ Some e → IsPicked setup past schedule i e (slice_index_or picked i 0)
 
--- A thread that is in flight was picked rightly, when the schedule was as long as it was then.
+-- A thread in flight was chosen by the rule when its step was taken, at a schedule no longer than now.
 pub record IsInFlightRightly (w : RoundState) (t : ℕ) : Type 0 where
   pub earlier : taken_when w t ≤ length w.schedule
   pub rightly :
       is_picked_on w.past (machine_after w.setup w.schedule (taken_when w t)) t (hart_of w.machine t).number ≡ true
 
--- All that a round has done so far was picked rightly: its entries, and the steps that are in flight.
+-- All that a round has done so far was chosen by the rule: its entries, and the steps in flight.
 pub record IsPickedSoFar (w : RoundState) : Type 0 where
   pub entries : ArePicked w.setup w.past w.schedule w.picked
   pub held : (t : ℕ) → is_in_flight w t ≡ true → IsInFlightRightly w t

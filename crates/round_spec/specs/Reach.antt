@@ -10,7 +10,7 @@ use Rattle.history_spec.specs.Facts.{Fact, facts, read_slots}
 use Rattle.history_spec.specs.Before.{is_in, meets, fact_at, is_next_at}
 use Rattle.history_spec.specs.Ancestors.{any_below}
 
--- What the step at a place reads, by what each step reads.
+-- The slots that the step at a place reads, by those that each step reads.
 abbrev pub read_at : List (List ℕ) → ℕ → List ℕ
 read_at reads j = slice_index_or reads j []
 
@@ -30,7 +30,8 @@ abbrev pub leads_to : List Fact → List (List ℕ) → ℕ → ℕ → Bool
 leads_to fs reads i j =
     (((fact_at fs i).thread == (fact_at fs j).thread) && is_next_at fs i j) || comes_to fs reads i j
 
--- Whether the step at place j reads a changed page, or a chain of fewer than n links leads to it from one that does.
+-- Whether a chain of fewer than n links leads to the step at place j from one that reads a changed page; one without
+-- links leads from j itself.
 abbrev pub reached_within : List Fact → List (List ℕ) → List ℕ → ℕ → ℕ → Bool
 reached_within fs reads pages zero j = false
 reached_within fs reads pages (suc n) j =
@@ -44,7 +45,7 @@ is_reached fs reads pages j = reached_within fs reads pages (suc j) j
 abbrev pub reach : List Fact → List (List ℕ) → List ℕ → List Bool
 reach fs reads pages = map (is_reached fs reads pages) (range_with_len 0 (length fs))
 
--- A set of steps that has each which reads a changed page, and each to which one of the set leads.
+-- A set of steps that has each that reads a changed page, and each that one of the set leads to.
 pub record IsClosedSet (fs : List Fact) (reads : List (List ℕ)) (pages : List ℕ) (among : ℕ → Bool) : Type 0 where
   pub start : (j : ℕ) → j < length fs → meets pages (read_at reads j) ≡ true → among j ≡ true
   pub led : (i j : ℕ) → i < j → j < length fs → among i ≡ true → leads_to fs reads i j ≡ true → among j ≡ true
@@ -58,7 +59,7 @@ last_below test (suc n) = if test n then suc n else last_below test n
 abbrev pub giver_end : List Fact → ℕ → ℕ
 giver_end fs j = last_below (λ g. gave_at fs g j) j
 
--- What each step of a history reads.
+-- The slots that each step of a history reads.
 abbrev pub reads_of : History → List (List ℕ)
 reads_of h = map (λ (r : Record). read_slots r) h.records
 
@@ -74,7 +75,7 @@ changed a b = changed_slots (start_memory a) (start_memory b)
 abbrev pub reached_of : History → Setup → List Bool
 reached_of h setup = reach (facts h) (reads_of h) (changed h.setup setup)
 
--- How many steps of the history that a round goes by its setup reaches, and 0 where there is no history.
+-- How many steps of the history that a round is based on its setup reaches, and 0 if there is no history.
 abbrev pub reached_count : Option History → Setup → ℕ
 reached_count None setup = 0
 reached_count (Some h) setup = count_by (λ (flag : Bool). flag) (reached_of h setup)

@@ -8,7 +8,7 @@ use Rattle.round_spec.specs.Rounds.{RoundState}
 use Rattle.history_spec.specs.Facts.{facts}
 use Rattle.history_spec.specs.Orders.{threads_at}
 
--- To reuse the steps of a history in the order of some of its places.
+-- The events that reuse the steps of a history in the order of some of its places.
 abbrev pub reuses_of : History → List ℕ → List Event
 reuses_of h places = map (λ t. Reuse t) (threads_at (facts h) places)
 

@@ -1,4 +1,4 @@
--- Rounds that have done nothing yet but what the history that they go by did, step by step.
+-- Rounds that have only replayed the history that they are based on, step by step.
 use Rattle.std.specs.Prelude.{◌≡◌, ◌≢◌, ◌<◌, ℕ, Bool, true, false, ◌==◌, length, take, Some}
 use Rattle.machine_spec.specs.Setup.{Setup, first}
 use Rattle.history_spec.specs.History.{History, applied_from, is_coherent}
@@ -11,7 +11,7 @@ use Rattle.round_spec.specs.Due.{place_in, is_due}
 use Rattle.round_spec.specs.Choice.{pick_of}
 use Rattle.round_spec.specs.Unedited.{all_reused_of}
 
--- A setup without an edit since a history that holds together, honest or not.
+-- A setup without an edit since a coherent history, honest or not.
 pub record Repeats (h : History) (setup : Setup) : Type 0 where
   pub coherent : is_coherent h ≡ true
   pub same : h.setup ≡ setup
@@ -24,22 +24,22 @@ pub record HasReused (h : History) (w : RoundState) : Type 0 where
   pub schedule : w.schedule ≡ take (length w.schedule) (all_reused_of h)
   pub records : w.records ≡ take (length w.schedule) h.records
 
--- Such a round that has done nothing else: nobody is in flight, and nothing was discarded.
+-- Such a round that has done nothing else: no thread is in flight, and nothing was discarded.
 pub record IsReplaying (h : History) (w : RoundState) : Type 0 where
   pub reused : HasReused h w
   pub in_flight : w.in_flight ≡ none_in_flight
   pub discarded : w.discarded ≡ 0
 
--- The step that a round which replays its history makes next: it is picked, to be reused; it is due; its place is after
--- all entries so far; and every other thread's place is after it.
+-- The next step of a round that replays its history: it is picked, to be reused; it is due; its place is the number of
+-- entries so far; and every other thread's place is after it.
 pub record IsNextStep (w : RoundState) (t : ℕ) : Type 0 where
   pub picked : pick_of w ≡ pick.Reuse t
   pub due : is_due w.past w.machine t ≡ true
   pub place : place_in w.past w.machine t ≡ length w.schedule
   pub least : (other : ℕ) → other ≢ t → length w.schedule < place_in w.past w.machine other
 
--- Whether an event is one by which a round may go on after a pick: a step is begun only where it was picked; what was
--- begun may end, and the round may be stopped, at any time.
+-- Whether a round may continue with this event after a pick: only the picked step is started; a step in flight may end,
+-- and the round may be stopped, at any time.
 abbrev pub goes_on_by : Pick → Event → Bool
 goes_on_by (pick.Reuse t) (Reuse u) = t == u
 goes_on_by (pick.Run t) (Take u) = t == u

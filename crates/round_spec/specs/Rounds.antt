@@ -11,9 +11,9 @@ use Rattle.round_spec.specs.declared.events.Event.{Event}
 use Rattle.round_spec.specs.declared.events.Event.TheVariants.{Take, Reuse, Commit, GiveBack, Stop}
 use Rattle.round_spec.specs.Marks.{record_for, fits_next}
 
--- A round as it stands: what it started from and goes by, the machine, the schedule with marks, the records of its
--- entries, and for each entry how long the schedule was when its thread was picked; which threads are in flight, and
--- for each of them how long the schedule was when it was taken, which is 0 for the others; how many executed steps were
+-- The state of a round: its setup, the history that it is based on, the machine, the schedule with marks, the records
+-- of its entries, and for each entry how long the schedule was when its thread was picked; which threads are in flight,
+-- and for each of them how long the schedule was when it was taken, which is 0 for the others; how many steps were
 -- discarded, and whether the round was stopped.
 pub record RoundState : Type 0 where
   pub setup : Setup
@@ -31,7 +31,7 @@ pub record RoundState : Type 0 where
 unfoldable pub none_in_flight : List Bool
 none_in_flight = replicate 32 false
 
--- For none of the 32 threads a length is kept.
+-- No length is kept for any of the 32 threads.
 unfoldable pub nothing_taken : List ℕ
 nothing_taken = replicate 32 0
 
@@ -66,18 +66,18 @@ is_in_flight w t = is_in_flight_of w.in_flight t
 abbrev pub is_free_in : Machine → List Bool → ℕ → Bool
 is_free_in m in_flight t = is_ready (hart_of m t).status && not (is_in_flight_of in_flight t)
 
--- Whether a thread's next step can be begun: the round isn't finished, and the thread is ready and not in flight.
+-- Whether a thread's next step can be started: the round isn't finished, and the thread is ready and not in flight.
 abbrev pub can_begin : RoundState → ℕ → Bool
 can_begin w t = not (is_finished w) && is_free_in w.machine w.in_flight t
 
--- Whether it can be taken, which is where no record of it fits, and whether a record can be reused.
+-- Whether it can be taken: it can be started, and no record of it fits; and whether it can be reused: one fits.
 abbrev pub can_take : RoundState → ℕ → Bool
 can_take w t = can_begin w t && not (fits_next w.past w.machine t)
 
 abbrev pub can_reuse : RoundState → ℕ → Bool
 can_reuse w t = can_begin w t && fits_next w.past w.machine t
 
--- A round after a thread was taken.
+-- A round after a thread's next step was taken.
 abbrev pub taken : RoundState → ℕ → RoundState
 taken w t = record w { in_flight = slice_set w.in_flight t true; taken_at = slice_set w.taken_at t (length w.schedule) }
 
@@ -96,7 +96,7 @@ reused_by w t (Some r) =
       picked = w.picked ++ length w.schedule ∷ [];
     }
 
--- A round after the step of a thread that was in flight.
+-- A round after the step of a thread in flight was committed.
 abbrev pub committed : RoundState → ℕ → RoundState
 committed w t =
     record w {
@@ -108,7 +108,7 @@ committed w t =
       taken_at = slice_set w.taken_at t 0;
     }
 
--- A round after a step that was taken was discarded; a count of 2 ^ 64 - 1 stays.
+-- A round after a step that was taken was discarded; the count stops at 2 ^ 64 - 1.
 abbrev pub given_back : RoundState → ℕ → RoundState
 given_back w t =
     record w {
@@ -134,10 +134,10 @@ abbrev pub all_happen : RoundState → List Event → RoundState
 all_happen w [] = w
 all_happen w (e ∷ events) = all_happen (happens w e) events
 
--- The round of a setup that goes by a history, after some events.
+-- The round of a setup, based on a history if there is one, after some events.
 abbrev pub round_after : Setup → Option History → List Event → RoundState
 round_after setup past events = all_happen (opening setup past) events
 
--- What a round leaves to the next one.
+-- The history of a round, which the next one is based on.
 abbrev pub history_of : RoundState → History
 history_of w = record { setup = w.setup; records = w.records }

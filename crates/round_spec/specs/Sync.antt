@@ -13,7 +13,7 @@ sync_fact f =
 abbrev pub sync_facts : List Fact → List Fact
 sync_facts fs = map sync_fact fs
 
--- Whether place i is that of the step just before an end or of an ancestor of it, by threads and objects alone.
+-- Whether the step at place i is the one just below a bound or an ancestor of it, by threads and objects alone.
 abbrev pub is_within : List Fact → ℕ → ℕ → Bool
 is_within fs zero i = false
 is_within fs (suc g) i = is_up_to (sync_facts fs) g i
@@ -23,7 +23,7 @@ is_within fs (suc g) i = is_up_to (sync_facts fs) g i
 unfoldable pub is_ordered : List Fact → ℕ → ℕ → Bool
 is_ordered fs i j = is_within fs (giver_end fs j) i
 
--- How many steps of a thread are the step just before an end or ancestors of it.
+-- How many steps of a thread are the one just below a bound or ancestors of it, by threads and objects alone.
 abbrev pub count_within : List Fact → ℕ → ℕ → ℕ
 count_within fs zero t = 0
 count_within fs (suc g) t = clock_at (sync_facts fs) g t

@@ -16,7 +16,7 @@ use Rattle.round_spec.specs.Picking.{any_thread, is_ready_and_due, machine_after
 use Rattle.round_spec.specs.Reach.{reached_of, reached_count}
 
 -- A step does the same work as an old one: it reads the same pages and writes the same pages, and ends in the same way,
--- at a call by the same number and arguments. The bytes of the pages, and those that a put appends, may differ.
+-- at a call with the same number and arguments. The bytes of the pages, and those that a put appends, may differ.
 pub record IsSameWork (old new : Record) : Type 0 where
   pub reads : read_slots new ≡ read_slots old
   pub written : written_slots new ≡ written_slots old
@@ -49,18 +49,20 @@ pub record ExecutesWhatIsReached (h : History) (w : RoundState) : Type 0 where
   pub entries : (i : ℕ) (r : Record) → IsExecuted w i r → IsReachedStep h w.setup r
   pub count : executed_count w.schedule ≤ reached_count (Some h) w.setup
 
--- Least re-execution: if a round works as the history that it goes by did, it executes no more than its setup reaches.
+-- Least re-execution: if a round works as the history that it is based on did, it executes no more than its setup
+-- reaches.
 abbrev pub ReexecutesLeast : RoundState → Type 0
 ReexecutesLeast w = (h : History) → w.past ≡ Some h → WorksAsBefore h w → ExecutesWhatIsReached h w
 
 -- A step stays within the work of an old one: it writes no page that the old one doesn't write, and ends in the same
--- way, at a call by the same number and arguments. It may read other pages.
+-- way, at a call with the same number and arguments. It may read other pages.
 pub record IsWithinWork (old new : Record) : Type 0 where
   pub written : (p : ℕ) → is_in p (written_slots new) ≡ true → is_in p (written_slots old) ≡ true
   pub end : new.kept.end ≡ old.kept.end
   pub call : old.kept.end ≡ thunk_end.Call → call_at new.kept.finish ≡ call_at old.kept.finish
 
--- A round stays within the work of a history: as it works as the history did, with that alone.
+-- A round stays within the work of a history: as one that works as the history did, but each executed step only stays
+-- within the work of the old one.
 pub record WorksWithin (h : History) (w : RoundState) : Type 0 where
   pub sound : IsSound (Some h) w.setup
   pub fuel : w.setup.fuel ≡ h.setup.fuel
@@ -68,7 +70,7 @@ pub record WorksWithin (h : History) (w : RoundState) : Type 0 where
       → (old : Record) × ((found (Some h) new.thread new.number ≡ Some old) × IsWithinWork old new)
 
 -- Entry i of a schedule was in time when there were so many entries, no more than i: its thread had made as many steps
--- as at entry i, and it was due, or nobody who was ready was.
+-- as at entry i, and it was due, or no ready thread was.
 pub record IsInTime (setup : Setup) (past : Option History) (schedule : List Entry) (i : ℕ) (e : Entry)
     (length_then : ℕ) : Type 0 where
   pub earlier : length_then ≤ i
@@ -81,7 +83,7 @@ pub record IsInTime (setup : Setup) (past : Option History) (schedule : List Ent
       (is_ready_and_due past (machine_after setup schedule length_then))))
       ≡ true
 
--- Each entry of a schedule was in time, when the schedule was as long as the entry's number says.
+-- Each entry of a schedule was in time when the schedule was as long as `points` says for the entry.
 pub record AreInTime (setup : Setup) (past : Option History) (schedule : List Entry) (points : List ℕ) : Type 0 where
   pub each :
       (i : ℕ) (e : Entry) → slice_get schedule i ≡ Some e → IsInTime setup past schedule i e (slice_index_or points i 0)

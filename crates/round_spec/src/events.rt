@@ -1,6 +1,6 @@
 //! What can happen to a round, and what a worker may do next.
 
-/// One event of a round. Where its condition doesn't hold, nothing changes.
+/// One event of a round. If its condition doesn't hold, nothing changes.
 #[derive(Clone, Copy)]
 pub enum Event {
     /// A worker takes this thread's next step to execute it. Condition: the round isn't finished, the
@@ -9,8 +9,7 @@ pub enum Event {
     /// The record of this thread's next step is applied in its place. Condition: the round isn't finished,
     /// the thread is ready and not in flight, and its record fits.
     Reuse(u8),
-    /// The step that was taken is made; after the round is finished it is discarded. Condition: the
-    /// thread is in flight.
+    /// The step that was taken is committed, or discarded if the round is finished. Condition: the thread is in flight.
     Commit(u8),
     /// The step that was taken is discarded. Condition: the thread is in flight.
     GiveBack(u8),
@@ -25,7 +24,7 @@ pub enum Pick {
     Reuse(u8),
     /// Take and execute this thread's next step.
     Run(u8),
-    /// Wait until a step that is in flight was committed or given back.
+    /// Wait until a step that is in flight is committed or given back.
     Hold,
     /// Nothing: the machine has an end, or the round was stopped.
     Over,

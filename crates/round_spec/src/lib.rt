@@ -1,15 +1,15 @@
 //! Rounds, as definitions, with their laws. No code but plain types and one constant.
 //!
-//! - What happens to a round at each event, which steps are reused, which thread is due, which is chosen: whatever
+//! - What happens to a round at each event, which steps are reused, which thread is due, which is chosen. Whatever
 //!   happens, the round is at the machine from scratch, its records are those of the steps, its marks are exact, and
-//!   what it leaves is an honest history; places and clocks tell who is due; every order which keeps what must come
-//!   before what can be reused whole.
-//! - The round of one worker and those of many: the schedule is permitted and complete; what is executed is what the
-//!   executed entries sum up to; each entry is picked rightly; with no history one worker does as in a run with no
-//!   earlier run; and if a setup is run again by its own honest history, each step is reused, however many workers there
-//!   are.
-//! - Which steps of a history an edit can reach: they are the least set which is closed under what carries a difference
-//!   on, and a round whose executed steps work as the old ones did executes no others.
+//!   its history is honest. Places and clocks determine which threads are due. Every order in which each step comes
+//!   after those that it depends on can be reused whole.
+//! - The round of one worker and those of many: the schedule is permitted and complete; the executed instructions are
+//!   those of the executed entries; each entry is chosen by the rule; without a history one worker makes the same
+//!   schedule as in a run with no earlier run; and if a setup is run again, based on its own honest history, each step
+//!   is reused, by any number of workers.
+//! - Which steps of a history an edit can reach: the least set of steps that has all that read a changed page and all
+//!   that one of the set leads to. A round whose executed steps work as the old ones did executes no others.
 //! - Races of a history: which pairs of its steps touch a page without an order by threads and objects.
 #![tactic(auto)]
 
@@ -52,7 +52,7 @@ mod events;
 
 pub use events::{Event, Pick};
 
-/// How often a watcher looks at most how many steps of a round were made.
+/// The most times that a watcher reads how many steps of a round were made.
 pub const MOST_LOOKS: usize = 1_024;
 
 /// Two steps that touch a page without an order, of which one writes it.
@@ -70,8 +70,8 @@ pub struct Race {
     pub later_writes: bool,
 }
 
-/// What holds of every round holds at its start, and after each event: in particular, who is in flight is
-/// ready still, and no record of its next step fits. By which history the round goes doesn't matter.
+/// What holds of every round holds at its start, and after each event: in particular, a thread in flight is still
+/// ready, and no record of its next step fits. The history that the round is based on doesn't matter.
 pub fn rounds_stay_in_order()
     ensures event { (w : RoundState) (e : Event) → IsInOrder w → IsInOrder (happens w e) }
     ensures events { (setup : Setup) (past : Option History) (events : List Event)
@@ -83,8 +83,8 @@ pub fn rounds_stay_in_order()
         → IsHeld (round_after setup past events) t }
 {}
 
-/// To commit the step of a thread that is in flight, in a round that isn't finished, is to apply a true record of it
-/// that fits.
+/// Committing the step of a thread that is in flight, in a round that isn't finished, is the same as applying a true
+/// record of it that fits.
 pub fn commit_applies_its_record()
     ensures { (w : RoundState) (r : Record)
         → IsWhole w.machine
@@ -103,9 +103,9 @@ pub fn commit_applies_its_record()
         } }
 {}
 
-/// Whatever happens, a round counts right: its machine has made as many steps as the schedule has
-/// entries, and each thread as many as there are of it; its records are of the entries' threads, numbered
-/// so; and the record of a reused entry is the history's own. By which history it goes doesn't matter.
+/// Whatever happens, a round counts right: its machine has made as many steps as the schedule has entries, and each
+/// thread as many as it has entries; its records are of the entries' threads, numbered by thread; and the record of a
+/// reused entry is the history's own. The history that the round is based on doesn't matter.
 pub fn rounds_count_right()
     ensures event { (w : RoundState) (e : Event) → IsInOrder w → IsCounted w
         → IsCounted (happens w e) }
@@ -114,9 +114,9 @@ pub fn rounds_count_right()
         → IsCounted (round_after setup past events) }
 {}
 
-/// Whatever happens, a round is where its schedule leads: made entry by entry, with nobody else at work, that
-/// schedule comes to the same machine and the same records. So a round is known by its schedule with marks,
-/// whoever made its steps. By which history it goes doesn't matter.
+/// Whatever happens, a round is where its schedule leads: that schedule, made entry by entry, comes to the same machine
+/// and the same records. So the schedule with marks determines the round, whichever workers made its steps. The history
+/// that the round is based on doesn't matter.
 pub fn rounds_are_by_their_schedules()
     ensures event { (w : RoundState) (e : Event) → IsInOrder w → IsBySchedule w
         → IsBySchedule (happens w e) }
@@ -125,7 +125,7 @@ pub fn rounds_are_by_their_schedules()
         → IsBySchedule (round_after setup past events) }
 {}
 
-/// Whatever happens, a round is of the setup that it was opened with, and goes by the same history.
+/// Whatever happens, a round keeps its setup and the history that it is based on.
 pub fn rounds_stay_of_their_setup()
     ensures setup { (setup : Setup) (past : Option History) (events : List Event)
         → (round_after setup past events).setup ≡ setup }
@@ -133,8 +133,8 @@ pub fn rounds_stay_of_their_setup()
         → (round_after setup past events).past ≡ past }
 {}
 
-/// Whatever happens, the records of a round have their slots among the pages of its map, where those of
-/// the history that it goes by have; so what it leaves has its slots in its setup's map.
+/// Whatever happens, the records of a round have their slots among the pages of its map, if those of the history that
+/// it is based on have. So its own history has its slots in its setup's map.
 pub fn rounds_stay_mapped()
     ensures event { (pages : ℕ) (w : RoundState) (e : Event)
         → All (IsMappedIn pages) (past_records w.past)
@@ -146,17 +146,17 @@ pub fn rounds_stay_mapped()
         → IsMapped (history_of (round_after setup past events)) }
 {}
 
-/// Whatever happens to a round that goes by a sound history: its schedule is permitted, and its machine
-/// is the one from scratch under it; its records are those of the steps, where that of a reused entry is
-/// the history's own; and exactly the steps whose record fitted are marked as reused.
+/// Whatever happens to a round that is based on a sound history, or on none: its schedule is permitted, and its machine
+/// is the one from scratch under it; its records are those of the steps, and the record of a reused entry is the
+/// history's own; and exactly the steps whose record fitted are marked as reused.
 pub fn rounds_are_from_scratch()
     ensures { (setup : Setup) (past : Option History) (events : List Event)
         → CanGoBy past setup
         → IsFromScratch (round_after setup past events) }
 {}
 
-/// What a round leaves that goes by a sound history and has an end is an honest history, and so a sound
-/// one for the next round of the same program.
+/// If a round is based on a sound history, or on none, and has an end, its own history is honest, and so sound for the
+/// next round of the same program.
 pub fn rounds_leave_honest_histories()
     ensures honest { (setup : Setup) (past : Option History) (events : List Event)
         → CanGoBy past setup
@@ -169,8 +169,8 @@ pub fn rounds_leave_honest_histories()
         → IsSound (Some (history_of (round_after setup past events))) edited }
 {}
 
-/// The counts of the records of executed entries add up to the number of instructions that the report of
-/// a round tells, where the round goes by a sound history.
+/// The counts of the records of executed entries add up to the number of instructions in the round's report, if the
+/// round is based on a sound history or on none.
 pub fn rounds_count_instructions()
     ensures { (setup : Setup) (past : Option History) (events : List Event)
         → CanGoBy past setup
@@ -179,15 +179,14 @@ pub fn rounds_count_instructions()
         ≡ instructions_from (first setup) (round_after setup past events).schedule }
 {}
 
-/// With no history to go by, the choice is that of a run with no earlier run, and so is the schedule of
-/// one worker.
+/// Without a history, the choice is that of a run with no earlier run, and so is the schedule of one worker.
 pub fn no_history_changes_nothing()
     ensures choice { (m : Machine) → choice_by None m none_in_flight ≡ choice m }
     ensures schedule { (setup : Setup) → one_worker setup None ≡ alone setup }
 {}
 
-/// By a history whose records are numbered, a thread whose next step has no place in it is due; and one
-/// whose step has a place, at which that step is, is due where all that must come before it are passed.
+/// If the records of a history are numbered, a thread whose next step has no place in it is due. If the next step has a
+/// place, that step is at the place, and the thread is due exactly if all steps that must come before it are passed.
 pub fn places_tell_who_is_due()
     ensures absent { (h : History) (m : Machine) (t : ℕ)
         → is_numbered h.records ≡ true
@@ -207,8 +206,8 @@ pub fn places_tell_who_is_due()
         → number_at (facts h) (place_in (Some h) m t) ≡ (hart_of m t).number }
 {}
 
-/// All that must come before a thread's next step are passed exactly where each other thread has made as
-/// many steps as the step's clock has for it, or has ended.
+/// All steps that must come before a thread's next step are passed exactly if each other thread has made as many steps
+/// as the step's clock has for it, or has exited.
 pub fn clocks_tell_who_is_due()
     ensures { (fs : List Fact) (m : Machine) (j : ℕ)
         → (hart_of m (fact_at fs j).thread).number ≡ number_at fs j
@@ -217,9 +216,8 @@ pub fn clocks_tell_who_is_due()
         → (clock_at fs j u ≤ (hart_of m u).number) ⊎ (has_exited m u ≡ true)) }
 {}
 
-/// To reuse the steps of an honest history in any order in which each comes after all that must come
-/// before it, in a round of the same setup, reuses all of them, and comes to the same end, output and
-/// memory.
+/// A round of the same setup can reuse the steps of an honest history in any order in which each comes after all that
+/// must come before it: it reuses all of them, and comes to the same end, output and memory.
 pub fn every_order_is_reused_whole()
     ensures { (h : History) (places : List ℕ)
         → IsHonest h
@@ -227,9 +225,8 @@ pub fn every_order_is_reused_whole()
         → ReusesInOrder h places (round_after h.setup (Some h) (reuses_of h places)) }
 {}
 
-/// The schedule that follows the choice is permitted, and there is an end after it, within the step
-/// limit; the round of one worker comes to an end, and at no time has it discarded anything. By which
-/// history it goes doesn't matter.
+/// The schedule that follows the choice is permitted, and leads to an end within the step limit. The round of one
+/// worker comes to an end, and discards nothing at any time. The history that it is based on doesn't matter.
 pub fn one_worker_comes_to_an_end()
     ensures permitted { (setup : Setup) (past : Option History)
         → IsSetup setup
@@ -245,9 +242,9 @@ pub fn one_worker_comes_to_an_end()
         → (after_picks n (opening setup past)).discarded ≡ 0 }
 {}
 
-/// The round of one worker that goes by a sound history is the one that its schedule makes: nobody is
-/// out, nothing was discarded, nobody stopped it, its machine and records are those from scratch, and its
-/// marks are exact. So it is after any number of picks.
+/// If the round of one worker is based on a sound history, or on none, it is the one that its schedule makes: no thread
+/// is in flight, nothing was discarded, it wasn't stopped, its machine and records are those from scratch, and its
+/// marks are exact. The same holds after any number of picks.
 pub fn one_worker_makes_its_schedule()
     ensures picks { (setup : Setup) (past : Option History) (n : ℕ)
         → CanGoBy past setup
@@ -264,16 +261,16 @@ pub fn one_worker_makes_its_schedule()
         → IsFromScratch (lone_round setup past) }
 {}
 
-/// What one worker does is one event after the other, whatever it goes by. So what holds of every round
-/// that events reach holds of its round, after each pick.
+/// What one worker does is one event after the other, whatever history its round is based on. So what holds of every
+/// round that events reach holds of its round, after each pick.
 pub fn one_worker_does_events()
     ensures { (setup : Setup) (past : Option History) (n : ℕ)
         → (events : List Event)
         × (after_picks n (opening setup past) ≡ round_after setup past events) }
 {}
 
-/// One worker makes its round entry by entry: it is the round that its schedule makes. So a round by that
-/// schedule is one that workers make, however its steps are shared out.
+/// One worker makes its round entry by entry: it is the round that its schedule makes. So any number of workers can
+/// make the round of that schedule, however its steps are divided among them.
 pub fn one_worker_makes_its_entries()
     ensures round { (setup : Setup) (past : Option History)
         → round_by setup past (lone_round setup past).schedule ≡ lone_round setup past }
@@ -284,8 +281,9 @@ pub fn one_worker_makes_its_entries()
         → IsMadeBy workers setup past (lone_round setup past).schedule worker_steps }
 {}
 
-/// A round that has an end was made by the workers who share its steps, where it is where its schedule leads
-/// and was picked rightly and, without an edit, replays its history; of one worker more is owed.
+/// Two or more workers whose numbers of steps add up to the steps of a round made it, if it has an end, it is where its
+/// schedule leads, its steps were chosen by the rule if its history is sound or none, and it replays its history if
+/// there is no edit. One worker must also follow the choice.
 pub fn workers_make_what_comes_to_an_end()
     ensures { (workers : ℕ) (w : RoundState) (worker_steps : List ℕ)
         → 1 < workers
@@ -298,9 +296,9 @@ pub fn workers_make_what_comes_to_an_end()
         → IsMadeBy workers w.setup w.past w.schedule worker_steps }
 {}
 
-/// A round that workers make by a sound history is the one that their schedule makes from scratch: the
-/// schedule is permitted and complete, machine and records are those from scratch, and the marks are exact.
-/// What it leaves is an honest history. One worker's round is the one that follows the choice.
+/// A round that workers make, based on a sound history or on none, is the one that their schedule makes from scratch:
+/// the schedule is permitted and complete, machine and records are those from scratch, and the marks are exact. Its own
+/// history is honest. One worker's round is the one that follows the choice.
 pub fn workers_make_rounds_from_scratch()
     ensures rounds { (workers : ℕ) (setup : Setup) (past : Option History) (entries : List Entry)
         (worker_steps : List ℕ)
@@ -313,7 +311,7 @@ pub fn workers_make_rounds_from_scratch()
         → round_by setup past entries ≡ lone_round setup past }
 {}
 
-/// Without an edit the round that workers make is all reuse of the history, however many they are.
+/// Without an edit, any number of workers make a round that only reuses the history.
 pub fn workers_repeat_an_unedited_round()
     ensures threads { (workers : ℕ) (h : History) (setup : Setup) (entries : List Entry)
         (worker_steps : List ℕ)
@@ -327,22 +325,23 @@ pub fn workers_repeat_an_unedited_round()
         → OnlyReuses h (round_by setup (Some h) entries) }
 {}
 
-/// What one worker leaves that went by a sound history is an honest history.
+/// If the round of one worker is based on a sound history, or on none, its own history is honest.
 pub fn one_worker_leaves_an_honest_history()
     ensures { (setup : Setup) (past : Option History)
         → CanGoBy past setup
         → IsHonest (history_of (lone_round setup past)) }
 {}
 
-/// One worker never has to wait: with nobody in flight there is always something to do, or the round is finished.
-/// By which history it goes doesn't matter.
+/// One worker never has to wait: with no thread in flight there is always a step to make, or the round is finished. The
+/// history that the round is based on doesn't matter.
 pub fn one_worker_never_waits()
     ensures { (setup : Setup) (past : Option History) (n : ℕ)
         → IsSetup setup
         → pick_of (after_picks n (opening setup past)) ≢ pick.Hold }
 {}
 
-/// Each entry of the round of one worker was picked rightly, when the schedule was as long as its place.
+/// If the round of one worker is based on a sound history, or on none, each entry was chosen by the rule when the
+/// schedule was as long as the entry's place.
 pub fn one_worker_picks_rightly()
     ensures entries { (setup : Setup) (past : Option History)
         → CanGoBy past setup
@@ -353,9 +352,9 @@ pub fn one_worker_picks_rightly()
         ≡ range_with_len 0 (length (lone_round setup past).schedule) }
 {}
 
-/// As long as a step is begun only where it was picked, all that a round by a sound history does is picked
-/// rightly, whatever else happens in between: its entries, each when the schedule was as long as is kept
-/// with it, and the steps that are in flight. So it is by any number of workers.
+/// If a round is based on a sound history, or on none, and starts only steps that are picked, all that it does is
+/// chosen by the rule, whatever else happens in between: its entries, each when the schedule was as long as is kept
+/// with it, and the steps in flight. This holds for any number of workers.
 pub fn workers_pick_rightly()
     ensures start { (setup : Setup) (past : Option History)
         → CanGoBy past setup
@@ -368,8 +367,8 @@ pub fn workers_pick_rightly()
         → IsPickedSoFar (happens w e) }
 {}
 
-/// What one worker executes, pick by pick, sums up to the instructions of the executed entries of its
-/// schedule, as the report has them. So it does after any number of picks.
+/// The instructions that one worker executes, pick by pick, add up to those of the executed entries of its schedule, as
+/// the report has them, if its round is based on a sound history or on none. The same holds after any number of picks.
 pub fn one_worker_executes_what_is_reported()
     ensures picks { (setup : Setup) (past : Option History) (n : ℕ)
         → CanGoBy past setup
@@ -381,16 +380,16 @@ pub fn one_worker_executes_what_is_reported()
         ≡ instructions_from (first setup) (lone_round setup past).schedule }
 {}
 
-/// Without an edit one worker makes the history's schedule, and its round is all reuse: at no pick is a
-/// step begun, no instruction is executed, and nothing is discarded.
+/// Without an edit, one worker makes the history's schedule, and its round only reuses the history: no pick starts an
+/// execution, no instruction is executed, and nothing is discarded.
 pub fn no_edit_reuses_all()
     ensures { (h : History) (setup : Setup) → IsUnedited h setup → ReusesAll h setup }
 {}
 
-/// Without an edit the same holds by any number of workers, at each moment, and whenever the history holds together,
-/// honest or not: as long as a step is begun only where it was picked, a round replays its history. Nobody is ever in
-/// flight; until it is finished, the history's next step is due, comes first, and is picked to be reused; and no
-/// instruction is executed. By an honest history the round is all reuse at its end.
+/// Without an edit, the same holds for any number of workers, at each moment, if the history is coherent, honest or
+/// not: as long as only picked steps are started, a round replays its history. No thread is ever in flight; until the
+/// round is finished, the history's next step is due, comes first, and is picked to be reused; and no instruction is
+/// executed. At its end, a round has only reused the history, if that is honest.
 pub fn no_edit_replays_the_history()
     ensures start { (h : History) (setup : Setup)
         → Repeats h setup
@@ -417,9 +416,9 @@ pub fn no_edit_replays_the_history()
         → OnlyReuses h w }
 {}
 
-/// The steps that changed pages reach are the least set that has each step which reads a changed page, and
-/// each to which one of the set leads. One pass from the front tells them, since a step is led to from
-/// earlier ones alone; and what a step writes comes to those readers whose view was given no earlier.
+/// The steps that changed pages reach are the least set that has each step that reads a changed page, and each that one
+/// of the set leads to. One pass from the front finds them, since only earlier steps lead to a step; and what a step
+/// writes comes to those readers whose view was given no earlier.
 pub fn reached_is_the_least_closed_set()
     ensures closed { (fs : List Fact) (reads : List (List ℕ)) (pages : List ℕ)
         → IsClosedSet fs reads pages (is_reached fs reads pages) }
@@ -438,9 +437,9 @@ pub fn reached_is_the_least_closed_set()
         ≡ (nat_lt w (giver_end fs j) && meets (fact_at fs w).written (read_at reads j)) }
 {}
 
-/// Whatever happens to a round whose entries are picked rightly: if it works as the history that it goes by
-/// did, the old step of each entry that it executes is one that its setup reaches, and it executes no more
-/// entries than there are such steps. So it is for every round that is where its schedule leads.
+/// Whatever happens to a round whose entries are chosen by the rule: if it works as the history that it is based on
+/// did, the old step of each entry that it executes is one that its setup reaches, and it executes no more entries than
+/// there are such steps. The same holds for every round that is where its schedule leads.
 pub fn executed_entries_are_reached()
     ensures events { (setup : Setup) (past : Option History) (events : List Event) (points : List ℕ)
         → IsSetup setup
@@ -453,8 +452,8 @@ pub fn executed_entries_are_reached()
         → ReexecutesLeast w }
 {}
 
-/// So many workers, and one alone, execute no more of a round than its setup reaches, if it works as the
-/// history that it goes by did.
+/// Any number of workers, and one alone, execute no more of a round than its setup reaches, if it works as the history
+/// that it is based on did.
 pub fn workers_reexecute_the_least()
     ensures workers { (workers : ℕ) (setup : Setup) (past : Option History) (entries : List Entry)
         (worker_steps : List ℕ)
@@ -466,9 +465,8 @@ pub fn workers_reexecute_the_least()
         → ReexecutesLeast (lone_round setup past) }
 {}
 
-/// Less suffices: that each executed step writes no page which the old one doesn't, and ends in the same
-/// way, whatever it reads; and that each entry was in time, whether or not a record of another thread
-/// fitted then.
+/// Less suffices: each executed step writes no page that the old one doesn't write, and ends in the same way, whatever
+/// it reads; and each entry was in time, whether or not a record of another thread fitted then.
 pub fn fewer_premises_suffice()
     ensures work { (old new : Record) → IsSameWork old new → IsWithinWork old new }
     ensures works { (h : History) (setup : Setup) (past : Option History) (events : List Event)
@@ -484,8 +482,8 @@ pub fn fewer_premises_suffice()
         → ExecutesWhatIsReached h (round_after setup (Some h) events) }
 {}
 
-/// A step comes directly before a later one by threads and objects where both are of one thread, where it gave
-/// the later one's thunk its view, or where both act on one object; no page orders them, nor does the end.
+/// By threads and objects, a step comes directly before a later one if both are of one thread, if it gave the later
+/// one's thunk its view, or if both act on one object; no page orders them, nor does the end.
 pub fn threads_and_objects_alone_order()
     ensures { (fs : List Fact) (i j : ℕ)
         → before_at (sync_facts fs) i j
@@ -493,8 +491,8 @@ pub fn threads_and_objects_alone_order()
         || (gave_at fs i j || overlap (fact_at fs i).objects (fact_at fs j).objects)) }
 {}
 
-/// Of each thread's steps the first ones come before a later thunk, as many as the clock of the step that gave
-/// the thunk its view counts.
+/// The steps of a thread that come before a later thunk are its first ones: as many as the clock of the step that gave
+/// the thunk its view has for it.
 pub fn first_steps_are_ordered()
     ensures { (fs : List Fact) (i j : ℕ)
         → i < j

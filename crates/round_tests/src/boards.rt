@@ -1,4 +1,4 @@
-//! Boards of a guest of two steps, `hi`. What follows is by hand.
+//! Boards of a guest of two steps, `hi`. The expected results are worked out by hand.
 
 ghost use Rattle.std.specs.Prelude.{◌≡◌, ◌<◌, IfOk};
 ghost use Rattle.std.specs.Arc.{arc_value};
@@ -39,14 +39,14 @@ fn begun<J: Naming, R: Wait>(rt: &R, board: &Board<J>, pass: &mut Pass<J>) -> Re
     }
 }
 
-/// The run of a job, with nobody who looks at the counter.
+/// The run of a job, without a watch.
 fn run_of<R: Threads>(rt: &R, alloc: Global, job: &Job) -> Result<Run, AllocError>
     ensures { IfOk result (λ run. IsRunOf job.now run) }
 {
     execute(alloc, job, &mut Turns::new(rt))
 }
 
-/// Hands in a run of the step that a worker was assigned, which can be committed.
+/// Submits a run of the step that a worker was assigned, which can be committed.
 fn hand_in<J: Naming, R: Wait>(
     rt: &R,
     board: &Board<J>,
@@ -62,7 +62,7 @@ fn hand_in<J: Naming, R: Wait>(
     }
 }
 
-/// Makes the step that a worker is told to execute.
+/// Executes the step that a worker is assigned.
 pub(super) fn make_next<J: Naming, R: Threads + Wait>(
     rt: &R,
     alloc: Global,
@@ -74,7 +74,7 @@ pub(super) fn make_next<J: Naming, R: Threads + Wait>(
     hand_in(rt, board, pass, run)
 }
 
-/// The round of one worker that hands in its first step twice, and the run that came back.
+/// The round of one worker that submits its first step twice, and the run that was returned.
 fn handed_in_twice<J: Naming, R: Threads + Wait>(
     rt: &R,
     alloc: Global,
@@ -161,7 +161,7 @@ fn steps_of(worker_steps: &[u64]) -> u64 {
     steps
 }
 
-/// Compares a round of two steps, which all are reused or none is, and what its workers made.
+/// Compares a round of two steps, which are both reused or both executed, and what its workers made.
 fn compare<R: Abort>(rt: &R, round: &Round, worker_steps: &[u64], workers: usize, reused: bool) {
     let instructions = if reused { 0 } else { 8 };
     assert!(rt; is_round(round, &[reused, reused], instructions, 0));
@@ -181,7 +181,7 @@ fn four_workers_make_a_round(rt: HostRuntime) -> Result<(), Fail> {
     Ok(())
 }
 
-/// A gate that counts who passes.
+/// A gate that counts how often it is entered.
 #[derive(Drop)]
 struct Counter {
     passed: AtomicU64,

@@ -1,4 +1,4 @@
-//! What several modules of tests begin with: the guest `hi`, which puts out 3 bytes by 5 instructions and exits by 3
+//! What several modules of tests begin with: the guest `hi`, which outputs 3 bytes by 5 instructions and exits by 3
 //! more, and records and a history of it that are made by hand. Its file is written byte by byte from the System V gABI
 //! and the ISA's text.
 
@@ -70,7 +70,7 @@ fn delta_of(alloc: Global, slot: usize) -> Result<Delta, AllocError>
     Ok(Delta::new(pages))
 }
 
-/// A call: what stands in a7, a0 and a1.
+/// A call: the values of a7, a0 and a1.
 pub(super) type Words = [u32; 3];
 
 /// These registers at an ECALL.
@@ -132,8 +132,8 @@ pub(super) fn history_of(
     Ok(History::new(setup, records))
 }
 
-/// Whether a round ended, whose steps are all of thread 0 and have these marks, with so many instructions that it
-/// executed and steps that it discarded.
+/// Whether a round ended, all of whose steps are of thread 0 and have these marks, after this many executed
+/// instructions and discarded steps.
 pub(super) fn is_round(round: &Round, marks: &[bool], instructions: u64, discarded: u64) -> bool {
     are_marks(round.schedule(), marks)
         && round.instructions() == instructions

@@ -105,7 +105,7 @@ fn giving(alloc: Global) -> Result<Fact, AllocError> {
     Ok(fact)
 }
 
-/// That step, those of two threads that act on one mutex, that of one that writes page 4, and the last.
+/// The step of `giving`, those of two threads that act on one mutex, that of one that writes page 4, and the last.
 fn cases(alloc: Global) -> Result<Vec<Fact>, AllocError> {
     let mutex = Object::Mutex(5);
     let mut last = step(alloc, 4);

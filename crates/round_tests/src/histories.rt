@@ -28,7 +28,7 @@ fn returned(mut regs: Regs, answer: u32) -> Regs {
     regs
 }
 
-/// The facts of three calls, where the first one is answered so.
+/// The facts of three calls, if the first one has this answer.
 fn facts_of(alloc: Global, calls: [Words; 3], answer: u32) -> Result<Vec<Fact>, Fail> {
     let [create, next, other] = calls;
     let start = first(0xD001_0000, 0, 0xC000_0000);
@@ -54,7 +54,7 @@ const LAST: Known = (ActedOn::Nothing, &[], &[], true);
 
 const CREATES: Known = (THREADS, &[0, 1], &[301, 302], false);
 
-/// Whether a fact of a place is the known one.
+/// Whether the fact at a place is the known one.
 fn is_known(fact: &Fact, place: usize, known: &Known) -> bool {
     let (objects, given, opened, last) = *known;
     fact.objects == objects

@@ -1,4 +1,4 @@
-//! Rounds of a guest of two steps, `hi`. What follows is by hand.
+//! Rounds of a guest of two steps, `hi`. The expected results are worked out by hand.
 
 ghost use Rattle.std.specs.Prelude.{◌≡◌, ◌<◌};
 
@@ -22,7 +22,7 @@ enum By {
     Events(&'static [Event]),
 }
 
-/// The round of the guest, with nobody who looks at the counters.
+/// The round of the guest; no watch reads the counters.
 fn made<R: Threads>(
     rt: &R,
     alloc: Global,
@@ -75,7 +75,7 @@ fn events_make_a_round(rt: HostRuntime) -> Result<(), Fail> {
     Ok(())
 }
 
-/// The run of the step that is picked to be executed, and taken.
+/// Takes the step that is picked to be executed, and returns its run.
 fn taken<R: Threads>(rt: &R, alloc: Global, round: &mut Round) -> Result<Run, Fail> {
     match round.pick(&mut Compared::new(rt)) {
         Pick::Run(t) => {
@@ -92,7 +92,7 @@ fn first_run<R: Threads>(rt: &R, alloc: Global, fuel: u32) -> Result<Run, Fail> 
     taken(rt, alloc, &mut round)
 }
 
-/// Commits a foreign run while its thread is in flight. The answer is the number of turns of the run that came back.
+/// Commits a foreign run while its thread is in flight. Returns the number of turns of the run that is returned.
 fn commit_foreign<R: Threads>(
     rt: &R,
     alloc: Global,

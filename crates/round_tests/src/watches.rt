@@ -17,7 +17,7 @@ use std::thread::Threads;
 use worked_guests::file_of;
 use worked_guests::guests::PAIR;
 
-/// How many steps the guest makes: five create, lock or join, and the others are those of its two threads.
+/// How many steps the guest makes: six of its first thread, and three of each of the other two.
 const STEPS: u64 = 12;
 
 /// The round of the guest of two adding threads, before its first step.
@@ -36,7 +36,7 @@ fn opened(alloc: Global) -> Result<Round, Fail>
     }
 }
 
-/// What a watch reads before the first step and after each, and behind it what it is given when the board is closed.
+/// What a watch reads before the first step and after each, and then what it gets when the board is closed.
 fn read<J: Naming, R: Threads + Wait>(
     rt: &R,
     alloc: Global,

@@ -1,4 +1,4 @@
--- What a guest's file is to a loader.
+-- A guest's file as a loader takes it.
 use Rattle.std.specs.Prelude.{ℕ, ◌≡◌, ◌+◌, ◌-◌, ◌*◌, ◌/◌, true, ◌&&◌, nat_le, nat_lt, if◌then◌else◌, List, map, length, slice_index}
 use Rattle.std.specs.List.{range_with_len}
 use Rattle.memory_spec.specs.Pages.{Mapped}
@@ -13,7 +13,7 @@ abbrev pub guest_pages : ℕ → ℕ → List Mapped
 guest_pages base count =
     map (λ number. record { number = number; permission = 7 }) (range_with_len (base / 4096) (pages_taken count))
 
--- The byte at an address, where bytes stand from a base on, and zeros elsewhere.
+-- The byte at an address: one of these bytes, which start at a base, and a zero elsewhere.
 abbrev pub byte_from : ℕ → List ℕ → ℕ → ℕ
 byte_from base bytes address =
     if nat_le base address && nat_lt address (base + length bytes) then slice_index bytes (address - base) else 0

@@ -1,4 +1,4 @@
--- What stands at a guest's base, as bytes.
+-- The items of a guest, as bytes.
 use Rattle.std.specs.Prelude.{ℕ, ◌+◌, List, [], ◌∷◌, length, flat_map, ⊤}
 use Rattle.byteorder.specs.Endian.{little_bytes}
 use Rattle.isa_spec.specs.Encoding.{encoding, InRange}

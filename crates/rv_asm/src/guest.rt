@@ -44,11 +44,11 @@ fn header(alloc: Global, start: u32) -> Result<Out, AllocError>
     Ok(out)
 }
 
-/// The executable of a guest that the loader takes: the items at the base, and `bss` bytes of zeros behind them,
-/// all of it readable, writable and executable, and the start at the base (System V gABI, ch. 4 and 5).
+/// The executable of a guest that the loader takes: the items at the base, and `bss` bytes of zeros after them, all of
+/// it readable, writable and executable, and the start at the base (System V gABI, ch. 4 and 5).
 ///
-/// The base is a page's first address, at least 0x1000; the memory has at least one byte and at most 1,024 pages,
-/// and ends at 0xC0000000 at the latest. Want of memory is the only error.
+/// The base is a page's first address, at least 0x1000; the memory has at least one byte and at most 1,024 pages, and
+/// ends at 0xC0000000 at the latest. The only error is that memory ran out.
 pub fn elf(alloc: Global, base: u32, items: &[Item], bss: u32) -> Result<Vec<u8>, AllocError>
     requires writable { All IsWritable items.now }
     requires page { base % 4096 ≡ 0 }

@@ -1,4 +1,4 @@
-//! What stands at the base of a guest.
+//! The items of a guest.
 
 ghost use Rattle.std.specs.Prelude.{◌≡◌, ◌++◌, All, flat_map, IfOk, OnOk, OnErr};
 ghost use Rattle.byteorder.specs.Endian.{little_bytes};
@@ -9,7 +9,7 @@ use ith_text::Out;
 use rv_isa::encode;
 use std::alloc::{AllocError, Global};
 
-/// What stands at a guest's base, one after the other.
+/// An item of a guest. The items follow one another from the guest's base on.
 #[derive(Clone, Copy)]
 pub enum Item {
     /// An instruction, of four bytes.
@@ -33,7 +33,7 @@ fn write_item(out: &mut Out, item: Item) -> Result<(), AllocError>
     }
 }
 
-/// The bytes of items in their order, or want of memory.
+/// The bytes of items in their order, or an error if memory ran out.
 pub(crate) fn written(alloc: Global, items: &[Item]) -> Result<Out, AllocError>
     requires { All IsWritable items.now }
     ensures { IfOk result (λ out. out ≡ items_bytes items.now) }

@@ -1,11 +1,11 @@
--- What an operation gives on two words.
+-- The result of an operation on two words.
 use Rattle.std.specs.Prelude.{ℕ, ◌%◌, ◌^◌}
 use Rattle.isa_spec.specs.Words.{word_of_test}
 use Rattle.isa_spec.specs.Operations.{branch_taken, immediate_result, shift_result, register_result}
 use Rattle.rv_calculate.specs.declared.operation.Operation.{Operation}
 use Rattle.rv_calculate.specs.declared.operation.Operation.TheVariants.{Branch, Immediate, Shift, Register}
 
--- the result; of a shift's amount the low byte is looked at (RISC-V unprivileged ISA 20191213, 2.4, 2.5, 7.1 and 7.2)
+-- The result. Only the low byte of a shift's amount counts (RISC-V unprivileged ISA 20191213, 2.4, 2.5, 7.1 and 7.2).
 abbrev pub result_of : Operation → ℕ → ℕ → ℕ
 result_of (Branch test) a b = word_of_test (branch_taken test a b)
 result_of (Immediate operation) a b = immediate_result operation a b

@@ -1,14 +1,13 @@
-//! Computes what instructions of RV32IM give.
+//! Computes the results of instructions of RV32IM.
 //!
-//! It reads lines of standard input. A line is a mnemonic and two words, with single spaces: the first
-//! operand, then the second one, the extended immediate or the amount of a shift. A word is eight
-//! hexadecimal digits with `a` to `f` in lower case. The answer is a line on standard output: the line
-//! as it stood, and the result, for a branch 1 where it is taken and 0 where it is not. So
-//! `sub 00000000 00000001` is answered by `sub 00000000 00000001 ffffffff`.
+//! It reads lines of standard input. A line is a mnemonic and two words, with single spaces: the first operand, then
+//! the second one, the extended immediate or the amount of a shift. A word is eight hexadecimal digits with `a` to `f`
+//! in lower case. For each line it prints the line and the result, for a branch 1 if it is taken and 0 if it is not. So
+//! the answer to `sub 00000000 00000001` is `sub 00000000 00000001 ffffffff`.
 //!
-//! Any other line is answered by `line N: not an operation` on standard error, with lines counted
-//! from 1, and the lines after it are read all the same. The status is 0 where each line was an
-//! operation, and 1 where one was not or where reading or writing failed.
+//! The answer to any other line is `line N: not an operation` on standard error, with lines counted from 1; the lines
+//! after it are read all the same. The status is 0 if each line was an operation, and 1 if one was not or if reading or
+//! writing failed.
 #![tactic(auto)]
 
 mod operation;
@@ -20,14 +19,14 @@ use std::io;
 use std::io::{BufRead, BufReader, BufWriter, Write};
 use std::process::ExitCode;
 
-/// The operation and the operands of a line, or `None` where it is none.
+/// The operation and the operands of a line, or `None` if it isn't an operation.
 fn parse(line: &str) -> Option<(Operation, u32, u32)> {
     let (name, operands) = line.split_once(' ')?;
     let (a, b) = operands.split_once(' ')?;
     Some((Operation::named(name)?, word_in(a)?, word_in(b)?))
 }
 
-/// Answers each line, and says whether each was an operation.
+/// Answers each line, and returns whether each was an operation.
 fn calculate<R>(rt: &R, alloc: Global) -> io::Result<bool>
 where
     R: Input + Print + Eprint,

@@ -76,7 +76,7 @@ fn register_named(name: &str) -> Option<Operation> {
 }
 
 impl Operation {
-    /// The operation of a mnemonic, or `None` where it is no instruction that computes.
+    /// The operation of a mnemonic, or `None` if it is no instruction that computes.
     pub fn named(name: &str) -> Option<Operation> {
         if let Some(operation) = branch_named(name) {
             return Some(operation);
@@ -87,7 +87,7 @@ impl Operation {
         register_named(name)
     }
 
-    /// The result on two words. A branch gives 1 where it is taken, and 0 where it is not.
+    /// The result on two words. For a branch it is 1 if the branch is taken, and 0 if it is not.
     pub fn result(self, a: u32, b: u32) -> u32
         ensures { result ≡ result_of self a b }
     {

@@ -28,7 +28,7 @@ word_address address index = address / 4096 * 4096 + 4 * index
 abbrev pub offset_to : ℕ → ℕ → ℕ
 offset_to address index = difference_of (word_address address index) address
 
--- The instruction that an operation of a kind stands for at an address; none where it is left to a turn of its own.
+-- The instruction that an operation of a kind stands for at an address; none if it is left to a turn of its own.
 abbrev pub instr_by : Kind → ℕ → ℕ → ℕ → ℕ → ℕ → Option Instr
 instr_by kind.Other address rd rs1 rs2 imm = None
 instr_by kind.Nothing address rd rs1 rs2 imm = Some instr.Fence
@@ -101,7 +101,7 @@ is_inside kind.Jump = true
 is_inside kind.JumpAndLink = true
 is_inside _ = false
 
--- Whether an operation may have x0 in rd: one that writes no register, or that looks at its number.
+-- Whether an operation may have x0 in rd: one that writes no register, or that checks rd for x0.
 abbrev pub may_have_zero : Kind → Bool
 may_have_zero kind.Other = true
 may_have_zero kind.Nothing = true
@@ -119,9 +119,9 @@ may_have_zero kind.JumpFar = true
 may_have_zero kind.JumpToRegister = true
 may_have_zero _ = false
 
--- An operation may be executed in place of the word at an address: its registers are among the 32, and it writes to x0
--- only where it looks for it; a target inside the page is a word of it; and the instruction that it stands for does
--- there what the word does, whatever memory and registers.
+-- An operation may be executed in place of the word at an address: its registers are among the 32, and it has x0 in rd
+-- only if it writes no register or checks rd for x0; a target inside the page is a word of it; and the instruction that
+-- it stands for does there what the word does, whatever memory and registers.
 pub record StandsFor (address word : ℕ) (o : Operation) : Type 0 where
   pub rd : o.rd < 32
   pub rs1 : o.rs1 < 32
@@ -142,8 +142,8 @@ pub record Decoded : Type 0 where
   pub bytes : List ℕ
   pub operations : List Operation
 
--- A decoded page is that of its bytes: each word's operation stands for it at its address; and what stands behind the
--- last is left to a turn of its own.
+-- A decoded page is that of its bytes: each word's operation stands for it at its address; and the one after the last
+-- is left to a turn of its own.
 pub record IsCodeOf (c : Decoded) : Type 0 where
   pub number : c.number < PAGE_NUMBERS
   pub bytes : length c.bytes ≡ 4096

@@ -4,8 +4,8 @@ use Rattle.memory_spec.specs.declared.TheConstants.{PAGE_NUMBERS}
 use Rattle.memory_spec.specs.Pages.{Mapped, Memory, allows, execute_right, page_of, unmapped}
 use Rattle.rv_code.specs.Meaning.{Decoded}
 
--- A mapped page of these bytes was decoded so: it has its number and its bytes; none where it may not be executed, or
--- no address of 32 bits is in it.
+-- A mapped page of these bytes was decoded to this: a page with its number and its bytes, or none if it may not be
+-- executed, or no address of 32 bits is in it.
 abbrev pub IsDecodedAs : Mapped → List ℕ → Option Decoded → Type 0
 IsDecodedAs page bytes (Some code) =
     (allows execute_right page.permission ≡ true) × (code.number ≡ page.number) × (code.bytes ≡ bytes)

@@ -8,7 +8,7 @@ use Rattle.thunk_spec.specs.Turn.{computed, executed}
 use Rattle.rv_code.specs.declared.operation.Operation.{Operation}
 use Rattle.rv_code.specs.Meaning.{StandsFor}
 
--- An operation stands at an address for each word of an instruction.
+-- An operation stands for each word of an instruction, at an address.
 abbrev pub ReadAs : ℕ → Instr → Operation → Type 0
 ReadAs address i o = (word : ℕ) → decoded word ≡ Some i → StandsFor address word o
 

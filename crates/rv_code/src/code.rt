@@ -25,7 +25,7 @@ impl Model for Code {
     ghost view = { λ c. map (option_map (λ page. page.value)) c.pages.items };
 }
 
-/// The page in a slot decoded, where it may be executed.
+/// The page in a slot, decoded, if it may be executed.
 fn decode_slot(
     alloc: Global,
     map: &PageMap,
@@ -47,11 +47,11 @@ fn decode_slot(
 }
 
 impl Code {
-    /// The pages of a memory that its map lets execute, decoded.
+    /// The pages of a memory that may be executed by its map, decoded.
     ///
     /// # Errors
     ///
-    /// An error where the host's memory ran out, or a page has as many holders as can be counted.
+    /// An error if the host's memory ran out, or a page has as many holders as can be counted.
     pub fn of(alloc: Global, map: &PageMap, memory: &PageTable) -> Result<Code, AllocError>
         requires { length memory.now ≡ length map.now }
         ensures { IfOk result (λ code. AreDecoded map.now memory.now code) }

@@ -5,10 +5,11 @@ use std::mem::size_of;
 /// What an operation does. The names are those of the instructions of `isa_spec`, and the sections its own.
 #[derive(Clone, Copy, PartialEq, Eq)]
 pub enum Kind {
-    /// Left to a turn of its own: ECALL, EBREAK, a word of no instruction, JAL to no multiple of 4, a branch to what is
-    /// no word of the page, a load to x0, and what stands behind the last word of a page.
+    /// Left to a turn of its own: ECALL, EBREAK, a word that is no instruction, JAL to an address that is no multiple
+    /// of 4, a branch to an address that is no word of the page, a load to x0, and the operation after the last word of
+    /// a page.
     Other,
-    /// Nothing but going on: FENCE, and what computes on registers and immediates alone and has x0 in rd.
+    /// Only continues: FENCE, and instructions that compute on registers and immediates alone and have x0 in rd.
     Nothing,
     /// rd takes imm: LUI, AUIPC at its own address, and ADDI of x0.
     Constant,
@@ -96,7 +97,7 @@ pub enum Kind {
     BranchGreaterOrEqualUnsigned,
     /// JAL inside the page without a link: imm is the index of the target's word.
     Jump,
-    /// JAL inside the page: rd takes the address behind it.
+    /// JAL inside the page: rd takes the address after it.
     JumpAndLink,
     /// JAL out of the page: imm is the target's address.
     JumpFar,
@@ -131,7 +132,7 @@ pub(super) const OTHER: Operation = Operation {
     imm: 0,
 };
 
-/// An operation that only goes on.
+/// An operation that only continues.
 pub(super) const NOTHING: Operation = Operation {
     kind: Kind::Nothing,
     rd: 0,

@@ -17,8 +17,8 @@ use std::sync::Arc;
 /// How many words a page has.
 pub const WORDS: usize = 1024;
 
-/// A page of code: its number, its bytes, and for each word the operation that stands for it. One more operation stands
-/// behind them, which is left to a turn of its own: so who goes on from one to the next needs to look for no end.
+/// A page of code: its number, its bytes, and for each word the operation that stands for it. One more operation
+/// follows them, which is left to a turn of its own, so that a loop over the operations needs no check for the end.
 #[derive(Drop)]
 pub struct CodePage {
     number: u32,
@@ -51,7 +51,7 @@ fn word_at(bytes: &[u8; PAGE_SIZE], index: usize) -> u32
         + (u32::from(bytes[offset + 3]) << 24)
 }
 
-/// The operations of the words of a page by its number, and the one behind them.
+/// The operations of the words of a page by its number, and the one after them.
 #[inline(never)]
 fn operations_of(number: u32, bytes: &[u8; PAGE_SIZE]) -> [Operation; 1025]
     requires { number < PAGE_NUMBERS }
@@ -84,7 +84,7 @@ impl CodePage {
     ///
     /// # Errors
     ///
-    /// An error where the host's memory ran out.
+    /// An error if the host's memory ran out.
     pub fn new(alloc: Global, number: u32, page: Arc<Page>) -> Result<Box<CodePage>, AllocError>
         requires { number < PAGE_NUMBERS }
         ensures number { IfOk result (λ code. code.value.number ≡ number) }
@@ -109,8 +109,8 @@ impl CodePage {
         self.page.bytes()
     }
 
-    /// The operation of a word by its index, or the one behind the last word. That it stands for the word, and that the
-    /// one behind the last is left to a turn of its own, is what a caller learns of any page of code.
+    /// The operation of a word by its index, or the one after the last word. A caller learns that it stands for the
+    /// word, and that the one after the last is left to a turn of its own.
     #[inline(always)]
     pub fn operation(&self, index: usize) -> &Operation
         requires { index ≤ WORDS }

@@ -14,7 +14,7 @@ use isa_spec::{
 use memory_spec::PAGE_SIZE;
 use rv_isa::decode;
 
-/// The index of a target's word in the page of an address; none where the page has no word there.
+/// The index of a target's word in the page of an address; none if the page has no word there.
 fn index_in_page(target: u32, address: u32) -> Option<u32>
     ensures found { IfSome result (λ index. (index < 1024)
         × (word_address address index ≡ target)) }

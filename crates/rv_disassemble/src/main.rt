@@ -1,17 +1,16 @@
-//! Says what instruction of RV32IM each word of a list is.
+//! Prints which instruction of RV32IM each word of a list is.
 //!
-//! It reads lines of standard input. A line is a word, in eight hexadecimal digits with `a` to `f` in
-//! lower case; the answer to it is a line on standard output: the word as it stood, then the
-//! instruction's mnemonic and its operands, or `none` where the word is illegal. So `0062a023` is
-//! answered by `0062a023 sw rs1=5 rs2=6 imm=00000000`.
+//! It reads lines of standard input. A line is a word, in eight hexadecimal digits with `a` to `f` in lower case. For
+//! each line it prints the word, then the instruction's mnemonic and its operands, or `none` if the word is illegal. So
+//! the answer to `0062a023` is `0062a023 sw rs1=5 rs2=6 imm=00000000`.
 //!
 //! Registers (`rd`, `rs1`, `rs2`) and the amount of a shift (`shamt`) are decimal. An immediate (`imm`)
 //! has eight hexadecimal digits: it is the word that the hart adds or compares, sign-extended, and
 //! with its twelve zeros for LUI and AUIPC.
 //!
-//! A line that is no word is answered by `line N: not a word` on standard error, with lines counted
-//! from 1, and the lines after it are read all the same. The status is 0 where each line was a word,
-//! and 1 where one was not or where reading or writing failed.
+//! The answer to a line that is no word is `line N: not a word` on standard error, with lines counted from 1; the lines
+//! after it are read all the same. The status is 0 if each line was a word, and 1 if one was not or if reading or
+//! writing failed.
 #![tactic(auto)]
 
 mod assembly;
@@ -35,7 +34,7 @@ fn write_answer<W: Write>(out: &mut W, w: u32) -> io::Result<()> {
     }
 }
 
-/// Answers each line, and says whether each was a word.
+/// Answers each line, and returns whether each was a word.
 fn disassemble<R>(rt: &R, alloc: Global) -> io::Result<bool>
 where
     R: Input + Print + Eprint,

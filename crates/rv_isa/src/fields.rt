@@ -21,7 +21,7 @@ pub fn funct3(w: u32) -> u32
     (w >> 12) & 7
 }
 
-/// Which of the group, beside funct3.
+/// Which of the group, together with funct3.
 #[inline(always)]
 pub fn funct7(w: u32) -> u32
     ensures { result ≡ funct7_of w }

@@ -1,4 +1,4 @@
-//! What the instructions that compute give (RISC-V unprivileged ISA 20191213, 2.4, 2.5, 7.1 and 7.2).
+//! The results of the instructions that compute (RISC-V unprivileged ISA 20191213, 2.4, 2.5, 7.1 and 7.2).
 
 ghost use Rattle.std.specs.Prelude.{◌≡◌};
 ghost use Rattle.isa_spec.specs.Operations.{branch_taken, immediate_result, shift_result, register_result};

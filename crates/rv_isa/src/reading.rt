@@ -249,8 +249,8 @@ fn system(w: u32) -> Option<Instr>
     }
 }
 
-/// The instruction that a word is, or `None` where RV32IM has none
-/// (RISC-V unprivileged ISA 20191213, chapter 24, RV32I Base Instruction Set and RV32M Standard Extension).
+/// The instruction that a word is, or `None` if RV32IM has none (RISC-V unprivileged ISA 20191213, chapter 24, RV32I
+/// Base Instruction Set and RV32M Standard Extension).
 ///
 /// Words of other extensions are `None`: FENCE.I, the CSR instructions, a shift whose word has bit 25, and words of
 /// 16 bits.

@@ -49,7 +49,7 @@ impl Regs {
         Regs { pc, x: [0; 32] }
     }
 
-    /// The registers that stand in `words`: pc first, then x1 to x31.
+    /// The registers in `words`: pc first, then x1 to x31.
     pub fn from_words(words: &[u32; 32]) -> Self
         ensures { result ≡ record { pc = slice_index words.now 0; x = slice_set words.now 0 0 } }
     {
@@ -76,7 +76,7 @@ impl Regs {
         self.pc
     }
 
-    /// Goes on at another address.
+    /// Continues at another address.
     #[inline(always)]
     pub fn set_pc(&mut self, pc: u32)
         ensures { self.new ≡ with_pc self.old pc }
@@ -116,7 +116,7 @@ impl Regs {
         self.x[usize::from(n)] = value;
     }
 
-    /// x0 to x31. That there are 32, and that x0 is zero, is what a caller learns of any registers.
+    /// x0 to x31. A caller learns that there are 32, and that x0 is zero.
     #[inline(always)]
     pub fn as_array(&self) -> &[u32; 32]
         ensures value { result.now ≡ self.now.x }

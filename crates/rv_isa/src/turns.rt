@@ -30,22 +30,22 @@ impl Tally {
         }
     }
 
-    /// So many more.
+    /// Raises the number by so many.
     #[inline(always)]
     pub fn raise(&mut self, _by: u32)
         ensures { self.new.number ≡ self.old.number + _by }
     {}
 
-    /// As many more as the other has.
+    /// Raises the number by the other's.
     #[inline(always)]
     pub fn merge(&mut self, _other: &Tally)
         ensures { self.new.number ≡ self.old.number + _other.now.number }
     {}
 }
 
-/// How many turns were executed. Who executes a turn raises it, and nothing that isn't lent the
-/// runtime can make one: so a call that is only lent a counter tells by it all turns that it executed.
-/// A clause sees a number; at run time it takes no bytes, and a program can't read it.
+/// How many turns were executed. The code that executes a turn raises it, and only code that borrows the runtime can
+/// make one. So a function that only borrows a counter reports by it all turns that it executed. A clause sees a
+/// number; at run time it takes no bytes, and a program can't read it.
 #[derive(Drop)]
 pub struct Turns {
     tally: Tally,
@@ -60,7 +60,7 @@ impl Model for Turns {
 }
 
 impl Turns {
-    /// A counter that nothing has raised. It is made by who is lent the runtime: only the runtime has
+    /// A counter that nothing has raised. Only a caller that borrows the runtime makes one: only the runtime has
     /// `Threads`, since an `impl` of it needs a parameter with that bound.
     pub fn new<R: Threads>(_rt: &R) -> Turns
         ensures { result ≡ 0 }
@@ -70,7 +70,7 @@ impl Turns {
         }
     }
 
-    /// So many turns are executed.
+    /// Counts so many executed turns.
     #[inline(always)]
     pub fn count(&mut self, turns: u32)
         ensures { self.new ≡ self.old + turns }
@@ -78,7 +78,7 @@ impl Turns {
         self.tally.raise(turns);
     }
 
-    /// The turns of another counter are counted too.
+    /// Counts the turns of another counter too.
     pub fn merge(&mut self, other: Turns)
         ensures { self.new ≡ self.old + other }
     {

@@ -93,7 +93,7 @@ fn b_type(imm: u32, rs2: u8, rs1: u8, funct3: u32, opcode: u32) -> u32
     })
 }
 
-/// The U-type, with the immediate as it stands.
+/// The U-type, with the immediate unchanged.
 fn u_type(imm: u32, rd: u8, opcode: u32) -> u32
     requires imm { IsUpper imm }
     requires rd { rd < 2 ^ 5 }

@@ -22,7 +22,7 @@ word_at number index = sum_of (number * 4096) (4 * index)
 abbrev pub at_word : ℕ → ℕ → Registers → Registers
 at_word number index r = with_pc r (word_at number index)
 
--- An instruction was executed, and leads on: from this memory and these registers to those.
+-- An instruction was executed, and another one follows: from this memory and these registers to those.
 abbrev pub Executes : Option Instr → Workspace → Registers → Workspace → Registers → Type 0
 Executes None before r after registers = ⊥
 Executes (Some i) before r after registers = Makes (executed before.map before.memory r i) before Next registers after

@@ -6,14 +6,14 @@ use Rattle.thunk_spec.specs.declared.ends.Outcome.{Outcome}
 use Rattle.thunk_spec.specs.declared.ends.Outcome.TheVariants.{Next}
 use Rattle.thunk_spec.specs.Turn.{Turn, turn}
 
--- A turn was made: it ended so, left these registers, and the memory has noted its pages and its stores.
+-- A turn was made: it ended in this way, with these registers, and the memory has noted its pages and its stores.
 pub record Makes (t : Turn) (before : Workspace) (ended : Outcome) (registers : Registers) (after : Workspace) : Type 0
   where
     pub outcome_is : ended ≡ t.outcome
     pub regs_are : registers ≡ t.regs
     pub workspace_is : after ≡ after_storing (after_taking before t.taken) t.stores
 
--- The turn that ended so and left these registers, and had nothing to do with memory.
+-- The turn that ended in this way, with these registers, and didn't access memory.
 abbrev pub untouched : Outcome → Registers → Turn
 untouched ended registers = record { outcome = ended; regs = registers; taken = []; stores = [] }
 

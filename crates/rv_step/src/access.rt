@@ -64,7 +64,7 @@ pub(super) fn extended(kind: Load, value: u32) -> u32
     }
 }
 
-/// A load of a kind. Alignment is looked at before the access.
+/// A load of a kind. Alignment is checked before the access.
 #[inline(always)]
 fn load_kind<M: Mem>(
     regs: &mut Regs,
@@ -125,7 +125,7 @@ pub(super) fn execute_load<M: Mem>(
     }
 }
 
-/// A store of a kind. Alignment is looked at before the access.
+/// A store of a kind. Alignment is checked before the access.
 #[inline(always)]
 fn store_kind<M: Mem>(
     regs: &mut Regs,

@@ -1,4 +1,4 @@
-//! Turns that have nothing to do with memory: results into registers, jumps and branches.
+//! Turns that don't access memory: results into registers, jumps and branches.
 
 ghost use Rattle.std.specs.Prelude.{◌≡◌, ◌<◌, ◌*◌, ◌/◌};
 ghost use Rattle.isa_spec.specs.Registers.{register, with_register};
@@ -11,7 +11,7 @@ use isa_spec::{BranchTest, Cause, ImmediateOperation, RegisterOperation, ShiftOp
 use rv_isa::{Regs, immediate, is_taken, register, shift};
 use thunk_spec::Outcome;
 
-/// Goes on at the next instruction (RISC-V unprivileged ISA 20191213, 2.1).
+/// Continues at the next instruction (RISC-V unprivileged ISA 20191213, 2.1).
 #[inline(always)]
 pub(super) fn advance(regs: &mut Regs)
     ensures { regs.new ≡ advanced regs.old }
@@ -20,8 +20,8 @@ pub(super) fn advance(regs: &mut Regs)
     regs.set_pc(pc.wrapping_add(4));
 }
 
-/// An instruction that does nothing: FENCE, where one hart has one view of memory
-/// (RISC-V unprivileged ISA 20191213, 2.7).
+/// An instruction that does nothing: FENCE, since a hart has one view of memory (RISC-V unprivileged ISA 20191213,
+/// 2.7).
 #[inline(always)]
 pub(super) fn go_on(regs: &mut Regs) -> Outcome
     ensures next { result ≡ Outcome.Next }
@@ -31,8 +31,7 @@ pub(super) fn go_on(regs: &mut Regs) -> Outcome
     Outcome::Next
 }
 
-/// Writes the result of an instruction, and goes on at the next one
-/// (RISC-V unprivileged ISA 20191213, 2.4).
+/// Writes the result of an instruction, and continues at the next one (RISC-V unprivileged ISA 20191213, 2.4).
 #[inline(always)]
 pub(super) fn compute(regs: &mut Regs, rd: u8, value: u32) -> Outcome
     requires { rd < 32 }
@@ -170,8 +169,8 @@ pub(super) fn jump_to(regs: &mut Regs, rd: u8, rs1: u8, offset: u32) -> Outcome
     jump(regs, rd, target)
 }
 
-/// Goes to pc plus the offset where the operands meet the test, else on
-/// (RISC-V unprivileged ISA 20191213, 2.5, Conditional Branches).
+/// Jumps to pc plus the offset if the operands meet the test, else continues at the next instruction (RISC-V
+/// unprivileged ISA 20191213, 2.5, Conditional Branches).
 #[inline(always)]
 pub(super) fn branch(regs: &mut Regs, test: BranchTest, rs1: u8, rs2: u8, offset: u32) -> Outcome
     requires rs1 { rs1 < 32 }

@@ -14,8 +14,9 @@ use rv_code::Kind;
 use rv_isa::Regs;
 use std::alloc::AllocError;
 
-/// A match over a kind with one arm for each, so that one jump leads to what executes it. Each entry names a function,
-/// what it is given, and the kinds that it executes, each with what is given too; those before the semicolon may fail.
+/// A match over a kind with one arm for each, so that one jump leads to the code that executes it. Each entry names a
+/// function, its arguments, and the kinds that it executes, each with a last argument if there is one; the functions
+/// before the semicolon may fail.
 macro_rules! by_kind {
     (@call $run:ident ($($given:expr),*) ($($more:expr)?)) => { $run($($given,)* $($more)?) };
     (
@@ -36,7 +37,7 @@ macro_rules! by_kind {
 ///
 /// # Errors
 ///
-/// An error where the host's memory ran out; nothing changes then.
+/// An error if the host's memory ran out; nothing changes then.
 #[inline(always)]
 pub(super) fn execute_operation<M: Mem>(
     placed: Placed,

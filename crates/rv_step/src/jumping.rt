@@ -13,7 +13,8 @@ use isa_spec::BranchTest;
 use memory_spec::PAGE_NUMBERS;
 use rv_isa::{Regs, is_taken};
 
-/// The address of a word, by the number of its page and its index there; the one behind the last page's last is 0.
+/// The address of a word, by the number of its page and its index there; that of the word after the last page's last is
+/// 0.
 #[inline(always)]
 pub(super) fn address_of(number: u32, index: usize) -> u32
     requires few_pages { number < PAGE_NUMBERS }
@@ -24,7 +25,7 @@ pub(super) fn address_of(number: u32, index: usize) -> u32
     start.wrapping_add((4 * index) as u32)
 }
 
-/// The address of the word behind an operation's own.
+/// The address of the word after an operation's own.
 #[inline(always)]
 fn behind(placed: Placed) -> u32
     ensures { result ≡ word_at placed.number (placed.index + 1) }
@@ -100,8 +101,8 @@ fn target_of(placed: Placed, regs: &Regs) -> u32
     start.wrapping_add(placed.imm) & 0xffff_fffe
 }
 
-/// A jump to a register plus an offset, into the page or out of it. One to no multiple of 4 is left to a turn of its
-/// own, before its link is written.
+/// A jump to a register plus an offset, into the page or out of it. A jump to an address that is no multiple of 4 is
+/// left to a turn of its own, before its link is written.
 #[inline(always)]
 pub(super) fn jump_to_register(placed: Placed, regs: &mut Regs) -> Flow
     requires { instr_placed placed

@@ -17,7 +17,7 @@ use std::alloc::AllocError;
 ///
 /// # Errors
 ///
-/// An error where the host's memory ran out; nothing changes then.
+/// An error if the host's memory ran out; nothing changes then.
 #[inline(always)]
 pub(super) fn load<M: Mem>(
     placed: Placed,
@@ -52,7 +52,7 @@ pub(super) fn load<M: Mem>(
 ///
 /// # Errors
 ///
-/// An error where the host's memory ran out; nothing changes then.
+/// An error if the host's memory ran out; nothing changes then.
 #[inline(always)]
 pub(super) fn store<M: Mem>(
     placed: Placed,

@@ -19,7 +19,7 @@ use std::alloc::AllocError;
 /// Why turns in a page ended.
 #[derive(Clone, Copy, PartialEq, Eq)]
 pub enum PageEnd {
-    /// A jump led out of the page, or was made where the room had got short; or a store changed the page.
+    /// A jump led out of the page, or was made with too little room after it; or a store changed the page.
     Jumped,
     /// The next turn is one for `step`.
     Other,
@@ -69,7 +69,7 @@ fn leave(regs: &mut Regs, turns: &mut Turns, end: PageEnd, count: u32, pc: u32) 
     Ran { end, count }
 }
 
-/// Ends turns in a page where memory ran out in the one at this pc: so many were made before it, and it counts too.
+/// Ends turns in a page after memory ran out in the turn at this pc: so many were made before it, and it counts too.
 #[cold]
 fn fail(regs: &mut Regs, turns: &mut Turns, made: u32, pc: u32) -> AllocError
     ensures registers { regs.new ≡ with_pc regs.old pc }
@@ -86,8 +86,8 @@ fn fail(regs: &mut Regs, turns: &mut Turns, made: u32, pc: u32) -> AllocError
 ///
 /// # Errors
 ///
-/// An error where the host's memory ran out in a turn: those before it were made, and nothing changed in it. The
-/// counter rises by their number and by one.
+/// An error if the host's memory ran out in a turn: those before it were made, and nothing changed in it. The counter
+/// rises by their number and by one.
 #[inline(never)]
 pub fn run_page<M: Mem>(
     regs: &mut Regs,

@@ -73,14 +73,13 @@ fn execute<M: Mem>(regs: &mut Regs, mem: &mut M, instr: Instr) -> Result<Outcome
 /// Makes one turn: fetches the word at the pc, decodes it and executes it
 /// (RISC-V unprivileged ISA 20191213, chapter 2).
 ///
-/// At `Call` the instruction is an ECALL. At `Call` and at `Trap` the registers are as before, so
-/// the pc is that of the ECALL or of the instruction that trapped, and nothing was stored. The counter
-/// rises by one, whatever the answer.
+/// At `Call` the instruction is an ECALL. At `Call` and at `Trap` the registers are as before, so the pc is that of the
+/// ECALL or of the instruction that trapped, and nothing was stored. The counter rises by one, whatever the result.
 ///
 /// # Errors
 ///
-/// An error where the host's memory ran out. Registers and stores are as before then; the page of the
-/// pc may have been noted as read.
+/// An error if the host's memory ran out. Registers and stores are as before then; the page of the pc may have been
+/// noted as read.
 #[inline(always)]
 #[tactic(auto, unfolding(thunk_spec::specs::Turn::turn))]
 pub fn step<M: Mem>(regs: &mut Regs, mem: &mut M, turns: &mut Turns) -> Result<Outcome, AllocError>

@@ -1,8 +1,8 @@
--- The thread of a token, put behind others.
+-- The thread of a token, appended to others.
 use Rattle.std.specs.Prelude.{ℕ, ◌≡◌, List, [], ◌∷◌, ◌++◌}
 use Rattle.schedule_list.specs.Schedule.{Encodes}
 
--- The thread that a piece encodes was put behind others, if the piece isn't empty.
+-- The thread that a piece encodes was appended to others, if the piece isn't empty.
 abbrev pub AddsToken : List ℕ → List ℕ → List ℕ → Type 0
 AddsToken [] before after = after ≡ before
 AddsToken (byte ∷ piece) before after =

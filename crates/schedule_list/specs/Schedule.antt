@@ -4,7 +4,7 @@ use Rattle.std.specs.List.{AllZip, slice_split}
 use Rattle.edit_spec.specs.Grammar.{is_filled}
 use Rattle.guest_call.specs.declared.thread_number.TheConstants.{THREADS}
 
--- A byte that stands between tokens: a space or a newline. (ISO/IEC 646)
+-- A byte that separates tokens: a space or a newline. (ISO/IEC 646)
 abbrev pub is_gap : ℕ → Bool
 is_gap byte = byte == 32 || byte == 10
 

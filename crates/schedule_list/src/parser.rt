@@ -28,14 +28,14 @@ impl<T: Drop> From<AllocFailed<T>> for ParseError {
     }
 }
 
-/// Whether a byte stands between tokens.
+/// Whether a byte separates tokens.
 fn is_gap(byte: u8) -> bool
     ensures { result ≡ is_gap byte }
 {
     byte == b' ' || byte == b'\n'
 }
 
-/// The bytes before the first gap and those after it, where there is one.
+/// The bytes before the first gap and those after it, if there is one.
 fn split_once(text: &[u8]) -> Option<(&[u8], &[u8])>
     ensures { MatchOption result (All (λ b. is_gap b ≡ false) text.now)
         (λ parts. All (λ b. is_gap b ≡ false) parts.0.now
@@ -47,7 +47,7 @@ fn split_once(text: &[u8]) -> Option<(&[u8], &[u8])>
     }
 }
 
-/// Puts the thread of a token behind the others. An empty piece is no token.
+/// Appends the thread of a token. An empty piece is no token.
 fn add_token(threads: &mut Vec<u8>, piece: &[u8]) -> Result<(), ParseError>
     ensures added { OnOk result (AddsToken piece.now threads.old.items threads.new.items) }
     ensures refused { IfErr result (WhyNotAdded (length threads.old.items) piece.now) }
@@ -66,8 +66,8 @@ fn add_token(threads: &mut Vec<u8>, piece: &[u8]) -> Result<(), ParseError>
 
 /// The threads that the bytes of a schedule name, in order.
 ///
-/// Tokens stand between spaces and newlines. Each is a number from 0 to 31 in decimal, without leading zeros; a mark
-/// `=` or `+` may follow, and is ignored. Tokens are counted from 0.
+/// Spaces and newlines separate tokens. Each is a number from 0 to 31 in decimal, without leading zeros; a mark `=` or
+/// `+` may follow, and is ignored. Tokens are counted from 0.
 ///
 /// # Errors
 ///

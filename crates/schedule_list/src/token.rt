@@ -8,7 +8,7 @@ ghost use Rattle.schedule_list.specs.Schedule.{IsMark, IsEncoding, Encodes};
 use edit_list::number_of;
 use guest_call::THREADS;
 
-/// A token without its mark, where it has one.
+/// A token without its mark, if it has one.
 fn unmarked(token: &[u8]) -> &[u8]
     ensures marked { (mark : List ℕ) × IsMark mark × (token.now ≡ result.now ++ mark) }
     ensures whole { (digits mark : List ℕ) → list_all is_ascii_digit digits ≡ true
@@ -21,7 +21,7 @@ fn unmarked(token: &[u8]) -> &[u8]
     }
 }
 
-/// The thread that a token encodes, where it encodes one.
+/// The thread that a token encodes, if it encodes one.
 pub fn thread_of(token: &[u8]) -> Option<u8>
     ensures { MatchOption result (IsEncoding token.now → ⊥) (Encodes token.now) }
 {

@@ -1,4 +1,4 @@
--- The rule of a word that counts steps, and what one step on it tells.
+-- The rule of a word that counts steps, and what one step on it gives.
 use Rattle.std.specs.Prelude.{◌≡◌, ℕ, ◌+◌, ◌≤◌, true, false, max, length, slice_index}
 use mathlib.Core.Option.{some}
 use lib.ListN.{get_elem?}
@@ -14,11 +14,11 @@ starter = record { writer = true; added = 0; seen = 0; loads = 0 }
 abbrev pub spent : View
 spent = record { writer = false; added = 0; seen = 0; loads = 0 }
 
--- the view of a new reader, which is told what this one has seen
+-- the view of a new reader, which learns what this one has seen
 abbrev pub told : View → View
 told v = record { writer = false; added = 0; seen = v.seen; loads = 0 }
 
--- the first view, told what the second has seen
+-- the first view, after it learned what the second has seen
 abbrev pub joined : View → View → View
 joined v w = record { writer = v.writer; added = v.added; seen = max v.seen w.seen; loads = v.loads }
 
@@ -30,15 +30,14 @@ raised number v = record { writer = v.writer; added = v.added + 1; seen = number
 abbrev pub loaded : ℕ → View → View
 loaded number v = record { writer = v.writer; added = v.added; seen = number; loads = v.loads + 1 }
 
--- What a seat may know, if the writer's seat has the number `writer` and the word is `number`: the writer has added the
--- word, every other seat has added nothing, and none has seen more than the word.
+-- What a seat may know, if the writer's seat has the number `writer` and the word is `number`: the writer has added
+-- that number, every other seat has added nothing, and none has seen more than the word.
 pub record Fits (writer number seat : ℕ) (v : View) : Type 0 where
   pub own : v.writer ≡ true → (seat ≡ writer) × (v.added ≡ number)
   pub others : v.writer ≡ false → v.added ≡ 0
   pub below : v.seen ≤ number
 
--- Exactly one seat is the writer's, and every seat fits the word, which is at most the most steps that a run may be
--- allowed.
+-- Exactly one seat is the writer's, and every seat fits the word, which is at most the largest step limit.
 pub record IsCounted (s : State (Unit {0}) View) : Type 0 where
   pub one_word : length s.words ≡ 1
   pub few : slice_index s.words 0 ≤ MOST_STEPS
@@ -46,13 +45,13 @@ pub record IsCounted (s : State (Unit {0}) View) : Type 0 where
   pub writers : (v : View) × (get_elem? s.views writer ≡ some v) × (v.writer ≡ true)
   pub fits : (seat : ℕ) (v : View) → get_elem? s.views seat ≡ some v → Fits writer (slice_index s.words 0) seat v
 
--- What an addition tells: the seat found what it had added, added one, and saw the word that came of it.
+-- What an addition gives: the seat found what it had added, added one, and saw the word that came of it.
 pub record Adds (step : Step (Unit {0})) (v : Me (Unit {0}) View) (found : ℕ) (w : Me (Unit {0}) View) : Type 0 where
   pub knows : w ≡ (raised (found + 1) v.0, v.1)
   pub own : v.0.added ≡ found
 
--- What a load tells: the seat found at least what it had seen, and at most the most steps; and if it is the writer's,
--- what it had added.
+-- What a load gives: the seat found at least what it had seen, and at most the largest step limit; and if it is the
+-- writer's, what it had added.
 pub record Loads (step : Step (Unit {0})) (v : Me (Unit {0}) View) (found : ℕ) (w : Me (Unit {0}) View) : Type 0 where
   pub knows : w ≡ (loaded found v.0, v.1)
   pub rises : v.0.seen ≤ found

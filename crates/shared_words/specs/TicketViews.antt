@@ -3,7 +3,7 @@ use Rattle.std.specs.Prelude.{ℕ, ◌≡◌, ◌<◌, true, List, [], ◌∷◌
 use Rattle.logbook.specs.Pages.{Book, Named}
 use Rattle.thunk_run.specs.declared.job.Job.{Job}
 
--- A ticket: the book in whose log its job stands, the number at which it does, and the job.
+-- A ticket: the book whose log has its job, the number of the job there, and the job.
 pub record TicketView : Type 0 where
   pub book : Book
   pub number : ℕ

@@ -2,16 +2,16 @@
 use Rattle.std.specs.Prelude.{ℕ, []}
 use Rattle.atomic_table.specs.Seated.{TableId}
 
--- What the writer of a word knows: which word it is, how many steps it added, what it last saw the word to be or was
--- told that it is, and how often it loaded it.
+-- What the writer of a word knows: which word it is, how many steps it added, the greatest number that it saw or
+-- learned from a reader, and how often it loaded the word.
 pub record WriterView : Type 0 where
   pub table : TableId
   pub added : ℕ
   pub seen : ℕ
   pub loads : ℕ
 
--- What a reader of a word knows: which word it is, what it last saw the word to be or was told that it is, and how
--- often it loaded it.
+-- What a reader of a word knows: which word it is, the last number that it saw or learned from the writer, and how
+-- often it loaded the word.
 pub record ReaderView : Type 0 where
   pub table : TableId
   pub seen : ℕ

@@ -1,4 +1,4 @@
-//! The log of the jobs for which tickets were issued. Its jobs exist in proofs alone, its length is a word.
+//! The log of the jobs for which tickets were issued. Its jobs exist only in proofs, its length is a word.
 
 ghost use Rattle.std.specs.Prelude.{◌≡◌, [], Some, slice_get, IfSome};
 ghost use Rattle.thunk_run.specs.declared.job.Job.{Job as Issued};

@@ -4,8 +4,8 @@ use super::view::View;
 use atomic_table::Seat;
 use std::marker::Model;
 
-/// The seat of a reader of a word, which adds nothing. It takes no bytes. A clause sees which word it is, what the
-/// reader last saw it to be or was told that it is, and how often it loaded the word.
+/// The seat of a reader of a word, which adds nothing. It takes no bytes. A clause sees which word it is, the last
+/// number that the reader saw or learned from the writer, and how often it loaded the word.
 #[derive(Drop)]
 pub struct Reader {
     pub(super) seat: Seat<(), View>,

@@ -1,4 +1,4 @@
-//! The rule of the log of issued jobs, and what a step on its word gives. The log itself exists in proofs alone.
+//! The rule of the log of issued jobs, and what a step on its word gives. The log itself exists only in proofs.
 
 use logbook::{Gain, Plain, Play, Rule};
 use thunk_run::Job;

@@ -1,9 +1,9 @@
-//! What a seat at the word's table knows, the rule of the table, and what its steps tell.
+//! What a seat at the word's table knows, the rule of the table, and what its steps give.
 
 use atomic_table::{Join, Play, Split, TableRule};
 
-/// What a seat knows: whether it is the writer's, how many steps it added, what it last saw the word to be or was told
-/// that it is, and how often it loaded the word. No value of it is made.
+/// What a seat knows: whether it is the writer's, how many steps it added, the last number that it saw or learned from
+/// another seat, and how often it loaded the word. No value of it is ever created.
 pub struct View {
     pub writer: bool,
     pub added: u64,
@@ -40,7 +40,7 @@ impl Play<(), View> for Loading {
     ghost then = { Loads };
 }
 
-/// A new reader is told what the writer has seen, and the writer is told what a reader has seen.
+/// A new reader learns what the writer has seen, and the writer learns what a reader has seen.
 pub(super) struct Telling;
 
 impl Split<View> for Telling {

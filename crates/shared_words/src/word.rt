@@ -43,7 +43,7 @@ impl Word {
         Ok((Word { table }, Writer { seat }))
     }
 
-    /// Counts one step more.
+    /// Counts one more step.
     pub fn add(&self, writer: &mut Writer)
         requires same { writer.old.table ≡ self.now }
         requires room { writer.old.added < MOST_STEPS }
@@ -57,7 +57,7 @@ impl Word {
             .fetch_add::<Adding>(&mut writer.seat, 0, 1);
     }
 
-    /// A new reader, which is told what the writer has seen.
+    /// A new reader, which learns what the writer has seen.
     #[tactic(auto, using(crate::proofs::Steps::splits))]
     pub fn split(&self, writer: &mut Writer) -> Reader
         requires { writer.old.table ≡ self.now }
@@ -70,7 +70,7 @@ impl Word {
         Reader { seat }
     }
 
-    /// How many steps the word counts: at least as many as the reader had seen or was told of. It never waits.
+    /// How many steps the word counts: at least as many as the reader had seen or learned. It never waits.
     pub fn load(&self, reader: &mut Reader) -> u64
         requires { reader.old.table ≡ self.now }
         ensures table { reader.new.table ≡ reader.old.table }
@@ -82,8 +82,7 @@ impl Word {
         self.table.shared.load::<Loading>(&mut reader.seat, 0)
     }
 
-    /// The writer is told what the reader has seen, and the reader ends. By the next `read` the word is found to be at
-    /// least that.
+    /// Consumes a reader. The writer learns what it has seen, and the next `read` finds at least that.
     #[tactic(auto, using(crate::proofs::Steps::joins))]
     pub fn join(&self, writer: &mut Writer, reader: Reader)
         requires writer { writer.old.table ≡ self.now }
@@ -99,7 +98,7 @@ impl Word {
     }
 
     /// How many steps the word counts, as its writer finds it: exactly those that were added, and at least as many as
-    /// the writer had seen or was told of.
+    /// the writer had seen or learned.
     pub fn read(&self, writer: &mut Writer) -> u64
         requires { writer.old.table ≡ self.now }
         ensures table { writer.new.table ≡ writer.old.table }

@@ -5,7 +5,7 @@ use atomic_table::Seat;
 use std::marker::Model;
 
 /// The seat of the one writer of a word. It takes no bytes. A clause sees which word it is, how many steps the writer
-/// added, what it last saw the word to be or was told that it is, and how often it loaded the word.
+/// added, the greatest number that it saw or learned from a reader, and how often it loaded the word.
 #[derive(Drop)]
 pub struct Writer {
     pub(super) seat: Seat<(), View>,

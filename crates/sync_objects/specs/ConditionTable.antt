@@ -1,4 +1,4 @@
--- The table of conditions, and who begins to wait in it.
+-- The table of conditions, and the threads that start to wait in it.
 use Rattle.std.specs.Prelude.{ℕ, ◌<◌, ◌==◌, ◌&&◌, Bool, true, false, not, List, length, slice_index_or, slice_set, Option, Some, None, All, if◌then◌else◌}
 use Rattle.guest_call.specs.Tables.{IsTable}
 use Rattle.guest_call.specs.Conditions.{Condition, unawaited, condition_queue, awaited_by}
@@ -8,8 +8,8 @@ pub record IsConditionTable (cells : List Condition) : Type 0 where
   pub table : IsTable condition_queue cells
   pub named : All (λ (c : Condition). c.mutex < 64) cells
 
--- the owner t of mutex m comes to wait: with another mutex than that of those who wait it is refused; else it waits at
--- the end of the queue. Whether it waits, and the condition (POSIX.1-2017, pthread_cond_wait)
+-- the owner t of mutex m comes to wait: it is refused if others wait with another mutex; else it waits at the end of
+-- the queue. Whether it waits, and the condition (POSIX.1-2017, pthread_cond_wait)
 abbrev pub wait_row : ℕ → ℕ → Condition → Bool × Condition
 wait_row t m c = if not (length c.queue == 0) && not (c.mutex == m) then (false, c) else (true, awaited_by t m c)
 

@@ -34,14 +34,15 @@ abbrev pub cond_wait_at : ℕ → List Condition → List Mutex → ℕ → ℕ 
 cond_wait_at t conditions mutexes c m =
     checked (nat_lt c 64 && nat_lt m 64) (conditions, mutexes) (at_pair (cond_wait_row t m) conditions mutexes c m)
 
--- who leaves the condition of number c comes to its mutex; a number above 63 is refused (POSIX.1-2017,
+-- the threads that leave the condition of number c come to its mutex; a number above 63 is refused (POSIX.1-2017,
 -- pthread_cond_broadcast)
 abbrev pub leave_at : (Condition → Leaving) → List Condition → List Mutex → ℕ → Effect × (List Condition × List Mutex)
 leave_at leaving conditions mutexes c =
     checked (nat_lt c 64) (conditions, mutexes)
     (at_pair (leave_row leaving) conditions mutexes c (slice_index_or conditions c unawaited).mutex)
 
--- the objects on which a condition's waiters come and go: the condition, and its mutex if somebody waits
+-- the objects on which a signal or a broadcast acts: the condition, and its mutex if a thread waits; none if c is above
+-- 63
 abbrev pub leave_objects_in : List Condition → ℕ → List Object
 leave_objects_in conditions c =
     if nat_lt c 64

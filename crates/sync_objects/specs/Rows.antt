@@ -4,11 +4,11 @@ use denote.Ref.{MutBor}
 use Rattle.guest_call.specs.declared.TheConstants.{OBJECTS}
 use Rattle.std.specs.Fn.{Once, FnOnceReturnsAtMut}
 
--- what a closure gives and leaves at an object is what a row does there
+-- a closure's result, and the object after it, are those of a row
 abbrev pub Does : {F C T : Type 0} → Once F (MutBor C × Unit {0}) (T × (MutBor C × Unit {0})) → F → (C → T × C) → Type 0
 Does {F} {C} {T} g f row = (c d : C) (r : T) → FnOnceReturnsAtMut g f c r d → (r, d) ≡ row c
 
--- a row done at the object of number i, with what it gives; nothing is done where the number is above 63
+-- a row done at the object of number i, with its result; nothing is done if the number is above 63
 abbrev pub row_at : {C T : Type 0} → C → (C → T × C) → List C → ℕ → Option T × List C
 row_at free row cells i =
     if nat_lt i OBJECTS

@@ -30,7 +30,7 @@ pub enum ActedOn {
 }
 
 impl ActedOn {
-    /// The object where its call's arguments are in range, and else none.
+    /// The object if its call's arguments are in range, else none.
     fn one_of(in_range: bool, object: Object) -> ActedOn
         ensures { objects_in result ≡ spec.one_of in_range object }
     {
@@ -42,7 +42,7 @@ impl ActedOn {
     }
 }
 
-/// The condition, and the mutex with which threads wait for it, if any wait.
+/// The condition, and the mutex with which threads wait for it, if any wait. Nothing if `c` is above 63.
 fn leave_objects(conditions: &Conditions, c: u32) -> ActedOn
     ensures { objects_in result ≡ leave_objects_in conditions.now c }
 {
@@ -55,7 +55,7 @@ fn leave_objects(conditions: &Conditions, c: u32) -> ActedOn
     }
 }
 
-/// The objects on which a call acts, which is no put.
+/// The objects on which a call that is no put acts.
 pub(super) fn acts_on(conditions: &Conditions, call: Call) -> ActedOn
     requires { is_put call ≡ false }
     ensures { (readable : ℕ → ℕ → Bool) (o : spec.Objects) → o.conditions ≡ conditions.now

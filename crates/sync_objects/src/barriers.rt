@@ -1,5 +1,5 @@
-//! The 64 barriers of a guest, at which threads wait until as many have come as the barrier counts. No call takes
-//! memory.
+//! The 64 barriers of a guest, at which threads wait until as many threads have come as the barrier counts. No call
+//! allocates memory.
 
 ghost use Rattle.std.specs.Prelude.{◌≡◌, ◌<◌, length};
 ghost use Rattle.guest_call.specs.Queues.{waits};
@@ -14,14 +14,14 @@ use guest_call::{EBUSY, EINVAL, Fate, OBJECTS, THREADS, Thread, threads_are_few}
 use std::marker::Model;
 use std::mem;
 
-/// The answer to the thread that lets the others go (POSIX.1-2017, pthread_barrier_wait,
+/// The answer to the thread that releases the others (POSIX.1-2017, pthread_barrier_wait,
 /// PTHREAD_BARRIER_SERIAL_THREAD).
 const SERIAL_THREAD: u32 = 1;
 
 /// The largest count of a barrier: as many as there can be threads.
 pub const LARGEST_COUNT: u32 = THREADS as u32;
 
-/// One barrier: how many threads it lets go together, once it is initialised, and who waits at it.
+/// One barrier: how many threads it releases together, once it is initialised, and which threads wait at it.
 #[derive(Drop)]
 struct Cell {
     count: Option<u32>,
@@ -37,7 +37,7 @@ impl Model for Cell {
 }
 
 impl Cell {
-    /// A barrier that isn't initialised, with nobody waiting.
+    /// A barrier that isn't initialised, with no thread waiting.
     fn uninitialised() -> Cell
         ensures { result ≡ uninitialised }
     {
@@ -47,7 +47,7 @@ impl Cell {
         }
     }
 
-    /// The count becomes `n`, unless somebody waits.
+    /// The count becomes `n`, unless a thread waits.
     fn init(&mut self, n: u32) -> Effect
         ensures { (result, self.new) ≡ barrier_init_row n self.old }
     {
@@ -96,7 +96,7 @@ impl Model for Barriers {
 }
 
 impl Barriers {
-    /// 64 barriers that aren't initialised, with nobody waiting.
+    /// 64 barriers that aren't initialised, with no thread waiting.
     pub fn new() -> Barriers
         ensures { result ≡ all_uninitialised }
     {
@@ -106,7 +106,7 @@ impl Barriers {
     }
 
     /// `barrier_init(b, n)`, called by a thread: the count becomes `n`, and the answer is 0. EINVAL: the number is
-    /// above 63, or `n` is 0 or above 32; EBUSY: somebody waits (POSIX.1-2017, pthread_barrier_init).
+    /// above 63, or `n` is 0 or above 32; EBUSY: a thread waits (POSIX.1-2017, pthread_barrier_init).
     pub fn init(&mut self, _t: Thread, b: u32, n: u32) -> Effect
         ensures { (result, self.new) ≡ barrier_init_at n self.old b }
     {
@@ -116,9 +116,9 @@ impl Barriers {
         at_cell(&mut self.cells, b, |cell: &mut Cell| cell.init(n))
     }
 
-    /// `barrier_wait(b)`, called by thread `t`: where `t` is the last of those that the barrier counts, its answer is
-    /// 1 (PTHREAD_BARRIER_SERIAL_THREAD), and all who wait are woken, each with the answer 0; else `t` waits at the
-    /// end of the queue. EINVAL: the number is above 63, or the barrier isn't initialised (POSIX.1-2017,
+    /// `barrier_wait(b)`, called by thread `t`: if `t` is the last of those that the barrier counts, its answer is 1
+    /// (PTHREAD_BARRIER_SERIAL_THREAD), and all waiting threads are woken, each with the answer 0; else `t` waits at
+    /// the end of the queue. EINVAL: the number is above 63, or the barrier isn't initialised (POSIX.1-2017,
     /// pthread_barrier_wait).
     pub fn wait(&mut self, t: Thread, b: u32) -> Effect
         requires free { waits barrier_queue self.old t ≡ 0 }

@@ -1,5 +1,5 @@
-//! The 64 conditions of a guest: who waits for each, with which mutex, and who leaves it. What becomes of the mutex is
-//! the caller's to do. No call takes memory.
+//! The 64 conditions of a guest: which threads wait for each, with which mutex, and which leave it. The caller updates
+//! the mutex. No call allocates memory.
 
 ghost use Rattle.std.specs.Prelude.{◌≡◌, ℕ, ◌<◌, ◌≤◌, length, slice_index_or};
 ghost use Rattle.std.specs.Option.{IfSome};
@@ -20,11 +20,11 @@ use std::mem;
 pub struct Leaving {
     /// The mutex with which they waited.
     pub mutex: u32,
-    /// The threads, who has waited longest in front.
+    /// The threads; the one that has waited longest is first.
     pub threads: Queue,
 }
 
-/// One condition: the mutex with which threads wait for it, or last did, and who waits.
+/// One condition: the mutex with which threads wait for it, or last did, and the waiting threads.
 #[derive(Drop)]
 struct Cell {
     mutex: u32,
@@ -40,7 +40,7 @@ impl Model for Cell {
 }
 
 impl Cell {
-    /// A condition for which nobody waits.
+    /// A condition for which no thread waits.
     fn unawaited() -> Cell
         ensures { result ≡ unawaited }
     {
@@ -50,7 +50,7 @@ impl Cell {
         }
     }
 
-    /// Thread `t`, which owns mutex `m`, wants to wait. Gives whether it does.
+    /// Thread `t`, which owns mutex `m`, wants to wait. Returns whether it does.
     fn wait(&mut self, t: Thread, m: u32) -> bool
         requires { length self.old.queue < THREADS }
         ensures { (result, self.new) ≡ wait_row t m self.old }
@@ -63,7 +63,7 @@ impl Cell {
         true
     }
 
-    /// The first who waits leaves, if there is one.
+    /// The first waiting thread leaves, if there is one.
     fn signal(&mut self) -> Leaving
         ensures { (result, self.new) ≡ leaving_of signal_leaving self.old }
     {
@@ -77,7 +77,7 @@ impl Cell {
         }
     }
 
-    /// All who wait leave.
+    /// All waiting threads leave.
     fn broadcast(&mut self) -> Leaving
         ensures { (result, self.new) ≡ leaving_of broadcast_leaving self.old }
     {
@@ -109,7 +109,7 @@ impl Model for Conditions {
 }
 
 impl Conditions {
-    /// 64 conditions for which nobody waits.
+    /// 64 conditions for which no thread waits.
     pub fn new() -> Conditions
         ensures { result ≡ all_unawaited }
     {
@@ -119,8 +119,8 @@ impl Conditions {
     }
 
     /// The condition's part of `cond_wait(c, m)`, called by thread `t`, the owner of mutex `m`: it waits at the end of
-    /// the queue, with that mutex. It doesn't, and nothing changes, exactly where others wait with another mutex,
-    /// which is EINVAL. Gives whether it waits (POSIX.1-2017, pthread_cond_wait).
+    /// the queue, with that mutex. It doesn't, and nothing changes, exactly if others wait with another mutex, which is
+    /// EINVAL. Returns whether it waits (POSIX.1-2017, pthread_cond_wait).
     pub fn wait(&mut self, t: Thread, c: u32, m: u32) -> bool
         requires free { waits condition_queue self.old t ≡ 0 }
         requires condition { c < OBJECTS }
@@ -132,8 +132,8 @@ impl Conditions {
         cell.wait(t, m)
     }
 
-    /// The condition's part of `signal(c)`: who has waited longest leaves, if anybody waits. None exactly where `c` is
-    /// above 63, which is EINVAL (POSIX.1-2017, pthread_cond_signal).
+    /// The condition's part of `signal(c)`: the thread that has waited longest leaves, if any waits. None exactly if
+    /// `c` is above 63, which is EINVAL (POSIX.1-2017, pthread_cond_signal).
     pub fn signal(&mut self, c: u32) -> Option<Leaving>
         ensures does { (result, self.new) ≡ leaving_at signal_leaving self.old c }
         ensures mutex { IfSome result (λ l. l.mutex < OBJECTS) }
@@ -143,8 +143,8 @@ impl Conditions {
         row_at(&mut self.cells, c, Cell::signal)
     }
 
-    /// The condition's part of `broadcast(c)`: all who wait leave, in order. None exactly where `c` is above 63, which
-    /// is EINVAL (POSIX.1-2017, pthread_cond_broadcast).
+    /// The condition's part of `broadcast(c)`: all waiting threads leave, in order. None exactly if `c` is above 63,
+    /// which is EINVAL (POSIX.1-2017, pthread_cond_broadcast).
     pub fn broadcast(&mut self, c: u32) -> Option<Leaving>
         ensures does { (result, self.new) ≡ leaving_at broadcast_leaving self.old c }
         ensures mutex { IfSome result (λ l. l.mutex < OBJECTS) }
@@ -154,7 +154,7 @@ impl Conditions {
         row_at(&mut self.cells, c, Cell::broadcast)
     }
 
-    /// The mutex with which threads wait for the condition of number `c`. None exactly where nobody waits for it.
+    /// The mutex with which threads wait for the condition of number `c`. None exactly if no thread waits for it.
     pub fn awaited_with(&self, c: u32) -> Option<u32>
         requires { c < OBJECTS }
         ensures { result ≡ awaited_with (slice_index_or self.now c unawaited) }

@@ -1,4 +1,4 @@
-//! What a call does to the threads, as the tables of objects hand it out.
+//! What a call does to the threads, as the tables of objects return it.
 
 ghost use Rattle.std.specs.Prelude.{◌≡◌, [], Some, None};
 ghost use Rattle.guest_call.specs.Effect as spec;
@@ -59,7 +59,7 @@ impl Effect {
         Effect::wakes(Fate::Exits(code), Queue::empty())
     }
 
-    /// The caller ends with this value, which the woken are told.
+    /// The caller ends with this value, which the woken threads receive.
     pub fn ends(value: u32, woken: Queue) -> Effect
         ensures { result
             ≡ record { fate = Fate.Ends value; woken = woken; told = Some value; created = None } }
@@ -91,21 +91,21 @@ impl Effect {
         self.fate
     }
 
-    /// Who is woken, in order, each with 0 in a0.
+    /// The woken threads, in order. Each returns 0 in a0.
     pub fn woken(&self) -> &Queue
         ensures { result.now ≡ self.now.woken }
     {
         &self.woken
     }
 
-    /// Who is woken, in order, where the rest of the effect is of no use.
+    /// The woken threads, in order. Consumes the effect.
     pub fn into_woken(self) -> Queue
         ensures { result ≡ self.woken }
     {
         self.woken
     }
 
-    /// What the woken are told in a1, where they are told anything.
+    /// What the woken threads receive in a1, if anything.
     pub fn told(&self) -> Option<u32>
         ensures { result ≡ self.now.told }
     {

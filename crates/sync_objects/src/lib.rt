@@ -1,5 +1,5 @@
-//! All objects of synchronisation of a guest, and the one way into them: what an environment call
-//! answers and changes. No call takes memory but the one that makes them.
+//! All synchronisation objects of a guest, and the only access to them: what an environment call answers and changes.
+//! Only `Objects::new` allocates memory.
 #![tactic(auto)]
 
 ghost use Rattle.std.specs.Prelude.{◌≡◌, ℕ, ◌+◌, ◌<◌, ◌≤◌, Bool, false, nat_lt, Some, None, length, if◌then◌else◌, IfOk};
@@ -38,7 +38,7 @@ use std::alloc::{AllocError, Global};
 use std::marker::Model;
 use threads::Threads;
 
-/// The tables of threads and of the objects of each kind. They have up to some KiB each, and are on the heap.
+/// The tables of threads and of the objects of each kind. Each has up to a few KiB, on the heap.
 #[derive(Drop)]
 struct Tables {
     threads: Box<Threads>,
@@ -49,7 +49,7 @@ struct Tables {
     rwlocks: Box<RwLocks>,
 }
 
-/// Thread `t` gives up mutex `m`, and waits for condition `c`.
+/// Thread `t` releases mutex `m`, and waits for condition `c`.
 fn cond_wait(
     conditions: &mut Conditions,
     mutexes: &mut Mutexes,
@@ -74,7 +74,8 @@ fn cond_wait(
     Effect::wakes(Fate::Blocks, released.into_woken())
 }
 
-/// The threads that left a condition come to its mutex: who has it now is woken, and the caller gets 0.
+/// The threads that left a condition come to its mutex: the one that owns it now, if any, is woken, and the caller gets
+/// 0.
 fn come_back(mutexes: &mut Mutexes, leaving: &Leaving) -> Effect
     requires mutex { leaving.now.mutex < OBJECTS }
     requires once { (u : ℕ) → waits mutex_queue mutexes.old u + places u leaving.now.threads ≤ 1 }
@@ -88,7 +89,7 @@ fn come_back(mutexes: &mut Mutexes, leaving: &Leaving) -> Effect
     Effect::wakes(Fate::Returns(0, None), woken)
 }
 
-/// The first who waits for condition `c` comes to its mutex.
+/// The first thread that waits for condition `c` comes to its mutex.
 fn signal(conditions: &mut Conditions, mutexes: &mut Mutexes, c: u32) -> Effect
     requires { (u : ℕ)
         → waits mutex_queue mutexes.old u + waits condition_queue conditions.old u ≤ 1 }
@@ -101,7 +102,7 @@ fn signal(conditions: &mut Conditions, mutexes: &mut Mutexes, c: u32) -> Effect
     }
 }
 
-/// All who wait for condition `c` come to its mutex.
+/// All threads that wait for condition `c` come to its mutex.
 fn broadcast(conditions: &mut Conditions, mutexes: &mut Mutexes, c: u32) -> Effect
     requires { (u : ℕ)
         → waits mutex_queue mutexes.old u + waits condition_queue conditions.old u ≤ 1 }
@@ -159,8 +160,7 @@ fn act_on(tables: &mut Tables, t: Thread, call: Call) -> Effect
     }
 }
 
-/// The threads and the objects of each kind. Nobody waits in more than one place, and only threads
-/// that exist wait.
+/// The threads and the objects of each kind. No thread waits in more than one place, and only threads that exist wait.
 #[derive(Drop)]
 pub struct Objects {
     tables: Tables,
@@ -182,7 +182,7 @@ impl Objects {
     ///
     /// # Errors
     ///
-    /// An error where the host's memory ran out.
+    /// An error if the host's memory ran out.
     pub fn new(alloc: Global) -> Result<Objects, AllocError>
         ensures { IfOk result (λ objects. objects ≡ spec.opening) }
     {
@@ -199,7 +199,7 @@ impl Objects {
         })
     }
 
-    /// The thread of this number. None exactly where no such thread exists, ended ones counted.
+    /// The thread of this number. None exactly if no thread has it, running or ended.
     pub fn thread(&self, number: u8) -> Option<Thread>
         ensures { result ≡ if nat_lt number (length self.now.threads) then Some number else None }
     {
@@ -210,8 +210,8 @@ impl Objects {
         }
     }
 
-    /// What a call of thread `t`, which is ready, answers and changes. A put has its row where the
-    /// pages are.
+    /// What a call of thread `t`, which is ready, answers and changes. Puts, whose row needs the pages, aren't handled
+    /// here.
     pub fn act(&mut self, t: Thread, call: Call) -> Effect
         requires exists { t < length self.old.threads }
         requires free { spec.waits_at self.old t ≡ 0 }
@@ -222,8 +222,8 @@ impl Objects {
         act_on(&mut self.tables, t, call)
     }
 
-    /// The objects on which a call would act, exactly: all that it reads and changes. A put acts on the output, where
-    /// the pages are.
+    /// Exactly the objects on which a call would act: all that it reads and changes. Puts, which act on the output,
+    /// aren't handled here.
     pub fn acts_on(&self, call: Call) -> ActedOn
         requires { is_put call ≡ false }
         ensures { (readable : ℕ → ℕ → Bool)

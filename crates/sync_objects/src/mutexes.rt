@@ -1,5 +1,5 @@
-//! The 64 mutexes of a guest, which check for errors and hand themselves over to who has waited longest.
-//! No call takes memory.
+//! The 64 mutexes of a guest, which check for errors. An unlocked mutex goes to the thread that has waited longest. No
+//! call allocates memory.
 
 ghost use Rattle.std.specs.Prelude.{◌≡◌, ℕ, ◌+◌, ◌<◌, ◌≤◌, ◌++◌, length, slice_index_or};
 ghost use Rattle.guest_call.specs.Queues.{places, waits};
@@ -15,7 +15,7 @@ use super::table::{all_of, at_cell};
 use guest_call::{EBUSY, EDEADLK, EPERM, Fate, OBJECTS, THREADS, Thread, threads_are_few};
 use std::marker::Model;
 
-/// One mutex: who owns it, if anybody, and who waits for it.
+/// One mutex: its owner, if it has one, and the threads that wait for it.
 #[derive(Drop)]
 struct Cell {
     owner: Option<Thread>,
@@ -31,7 +31,7 @@ impl Model for Cell {
 }
 
 impl Cell {
-    /// A mutex that is free, with nobody waiting.
+    /// A mutex that is free, with no thread waiting.
     fn free() -> Cell
         ensures { result ≡ unlocked }
     {
@@ -68,7 +68,7 @@ impl Cell {
         Effect::answers(0)
     }
 
-    /// Thread `t` gives the mutex up.
+    /// Thread `t` unlocks the mutex.
     fn unlock(&mut self, t: Thread) -> Effect
         ensures { (result, self.new) ≡ unlock_row t self.old }
     {
@@ -83,8 +83,8 @@ impl Cell {
         Effect::wakes(Fate::Returns(0, None), woken)
     }
 
-    /// Thread `u`, which left a condition, comes to the mutex: a free one becomes its own, and it is put among those
-    /// who were admitted; else it waits at the end of the queue.
+    /// Thread `u`, which left a condition, comes to the mutex: it becomes the owner of a free one, and is appended to
+    /// `admitted`; else it waits at the end of the queue.
     fn admit(&mut self, u: Thread, admitted: &mut Queue)
         requires room { length self.old.queue < THREADS }
         requires few { length admitted.old < THREADS }
@@ -99,7 +99,7 @@ impl Cell {
         }
     }
 
-    /// These threads come to the mutex, one after the other. Gives who has it now, if it is one of them.
+    /// These threads come to the mutex, one after the other. Returns which of them owns it now, if any.
     fn admit_each(&mut self, threads: &[Thread]) -> Queue
         requires { length self.old.queue + length threads.now ≤ THREADS }
         ensures { (result, self.new) ≡ admit_each threads.now self.old }
@@ -140,8 +140,9 @@ impl Mutexes {
         }
     }
 
-    /// `lock(m)`, called by thread `t`: a free mutex becomes its own, and so does the answer 0; its own is EDEADLK;
-    /// else it waits at the end of the queue. A number above 63 is EINVAL (POSIX.1-2017, pthread_mutex_lock).
+    /// `lock(m)`, called by thread `t`: if the mutex is free, `t` becomes its owner, and the answer is 0; if `t` owns
+    /// it, EDEADLK; else `t` waits at the end of the queue. A number above 63 is EINVAL (POSIX.1-2017,
+    /// pthread_mutex_lock).
     pub fn lock(&mut self, t: Thread, m: u32) -> Effect
         requires free { waits mutex_queue self.old t ≡ 0 }
         ensures { (result, self.new) ≡ tables.at_cell unlocked (lock_row t) self.old m }
@@ -157,16 +158,17 @@ impl Mutexes {
         )
     }
 
-    /// `trylock(m)`, called by thread `t`: a free mutex becomes its own, and the answer is 0; any other, its own too,
-    /// is EBUSY. A number above 63 is EINVAL (POSIX.1-2017, pthread_mutex_trylock).
+    /// `trylock(m)`, called by thread `t`: if the mutex is free, `t` becomes its owner, and the answer is 0; else
+    /// EBUSY, also if `t` owns it. A number above 63 is EINVAL (POSIX.1-2017, pthread_mutex_trylock).
     pub fn trylock(&mut self, t: Thread, m: u32) -> Effect
         ensures { (result, self.new) ≡ tables.at_cell unlocked (trylock_row t) self.old m }
     {
         at_cell(&mut self.cells, m, |cell: &mut Cell| cell.trylock(t))
     }
 
-    /// `unlock(m)`, called by thread `t`: where `t` owns the mutex the answer is 0, and it goes to the first who waits,
-    /// who is woken, or is free. Else EPERM. A number above 63 is EINVAL (POSIX.1-2017, pthread_mutex_unlock).
+    /// `unlock(m)`, called by thread `t`: if `t` owns the mutex, the answer is 0, and the mutex goes to the first
+    /// waiting thread, which is woken, or becomes free if none waits; else EPERM. A number above 63 is EINVAL
+    /// (POSIX.1-2017, pthread_mutex_unlock).
     pub fn unlock(&mut self, t: Thread, m: u32) -> Effect
         ensures { (result, self.new) ≡ tables.at_cell unlocked (unlock_row t) self.old m }
     {
@@ -174,8 +176,8 @@ impl Mutexes {
     }
 
     /// The threads that left a condition come to its mutex, of number `m`, one after the other: the first becomes the
-    /// owner of a free mutex, and each other waits at the end of the queue. Gives who has the mutex now, if it is one
-    /// of them: the one whose wait for the condition is over (POSIX.1-2017, pthread_cond_broadcast).
+    /// owner of a free mutex, and each other waits at the end of the queue. Returns which of them owns the mutex now,
+    /// if any: its wait for the condition is finished (POSIX.1-2017, pthread_cond_broadcast).
     pub fn admit_each(&mut self, m: u32, threads: &Queue) -> Queue
         requires mutex { m < OBJECTS }
         requires once { (u : ℕ) → waits mutex_queue self.old u + places u threads.now ≤ 1 }
@@ -186,7 +188,7 @@ impl Mutexes {
         cell.admit_each(threads)
     }
 
-    /// The thread that owns the mutex of number `m`. None exactly where the mutex is free.
+    /// The thread that owns the mutex of number `m`. None exactly if the mutex is free.
     pub fn owner(&self, m: u32) -> Option<Thread>
         requires { m < OBJECTS }
         ensures { result ≡ (slice_index_or self.now m unlocked).owner }

@@ -1,4 +1,4 @@
-//! A queue of threads, first in first out, which takes no memory.
+//! A queue of threads, first in first out, which allocates no memory.
 
 ghost use Rattle.std.specs.Prelude.{◌≡◌, ◌==◌, ◌<◌, ◌≤◌, [], ◌∷◌, ◌++◌, length, slice_index};
 ghost use Rattle.sync_objects.specs.Queue.{popped, AreThreads};
@@ -28,7 +28,7 @@ impl Model for Queue {
 }
 
 impl Queue {
-    /// A queue with nobody in it.
+    /// An empty queue.
     pub fn empty() -> Queue
         ensures { result ≡ [] }
     {
@@ -45,7 +45,7 @@ impl Queue {
         self.threads.len()
     }
 
-    /// Whether nobody is in the queue.
+    /// Whether the queue is empty.
     pub fn is_empty(&self) -> bool
         ensures { result ≡ (length self.now == 0) }
     {
@@ -77,7 +77,7 @@ impl Queue {
         self.threads.push(thread);
     }
 
-    /// Takes the first thread out. None exactly where the queue is empty.
+    /// Takes the first thread out. None exactly if the queue is empty.
     pub fn pop_first(&mut self) -> Option<Thread>
         ensures { (result, self.new) ≡ popped self.old }
     {

@@ -1,5 +1,5 @@
-//! The 64 reader-writer locks of a guest, which one writer holds or several readers, and which are handed on in the
-//! order in which threads came. No call takes memory.
+//! The 64 reader-writer locks of a guest, each held by one writer or by several readers, and handed over in the order
+//! in which threads came. No call allocates memory.
 
 ghost use Rattle.std.specs.Prelude.{◌≡◌, ℕ, ◌+◌, ◌<◌, ◌≤◌, ◌++◌, length, is_some, Bool, false};
 ghost use Rattle.guest_call.specs.Queues.{waits};
@@ -43,7 +43,7 @@ impl Default for Waiter {
     }
 }
 
-/// One lock: its writer, if there is one, whether each thread is a reader, and who waits.
+/// One lock: its writer, if there is one, whether each thread is a reader, and the waiting threads.
 #[derive(Drop)]
 struct Cell {
     writer: Option<Thread>,
@@ -64,7 +64,7 @@ impl Model for Cell {
 }
 
 impl Cell {
-    /// A lock that nobody holds, with nobody waiting.
+    /// A lock that no thread holds or waits for.
     fn unheld() -> Cell
         ensures { result ≡ unheld }
     {
@@ -90,14 +90,14 @@ impl Cell {
         self.writer == Some(t) || self.reads(t)
     }
 
-    /// Whether anybody is a reader.
+    /// Whether any thread is a reader.
     fn is_read(&self) -> bool
         ensures { result ≡ is_read self.now }
     {
         self.readers.iter().any(|reader| *reader)
     }
 
-    /// Whether anybody holds the lock.
+    /// Whether any thread holds the lock.
     fn is_held(&self) -> bool
         ensures { result ≡ is_held self.now }
     {
@@ -164,7 +164,7 @@ impl Cell {
         Effect::answers(0)
     }
 
-    /// Thread `t`, which holds the lock, lets go.
+    /// Thread `t`, which holds the lock, releases it.
     fn let_go(&mut self, t: Thread)
         ensures { self.new ≡ let_go t self.old }
     {
@@ -175,7 +175,7 @@ impl Cell {
         self.readers[usize::from(t.number())] = false;
     }
 
-    /// The first who waits becomes a reader, if it waits to read. Gives who it is.
+    /// The first waiting thread becomes a reader, if it waits to read. Returns that thread.
     fn admit_first_reader(&mut self) -> Option<Thread>
         ensures { (result, self.new)
             ≡ first_admitted self.old.writer self.old.readers self.old.queue }
@@ -189,8 +189,8 @@ impl Cell {
         Some(first.thread)
     }
 
-    /// Those who wait to read, before the first who wants to write, become readers, if no writer holds the lock. Gives
-    /// who they are.
+    /// If no writer holds the lock, the threads that wait to read, before the first that waits to write, become
+    /// readers. Returns these threads.
     fn admit_readers(&mut self) -> Queue
         ensures admitted { (result, self.new) ≡ readers_admitted self.old }
         ensures room { length result + length self.new.queue ≤ THREADS }
@@ -204,7 +204,7 @@ impl Cell {
         admitted
     }
 
-    /// The first who waits becomes the writer, if nobody holds the lock, and is put among those who were admitted.
+    /// If no thread holds the lock, the first waiting thread becomes the writer, and is appended to `admitted`.
     fn admit_writer(&mut self, admitted: &mut Queue)
         requires { length admitted.old + length self.old.queue ≤ THREADS }
         ensures admitted { admitted.new ≡ admitted.old ++ (writer_admitted self.old).0 }
@@ -219,7 +219,7 @@ impl Cell {
         }
     }
 
-    /// Thread `t` gives the lock up.
+    /// Thread `t` unlocks the lock.
     fn rwunlock(&mut self, t: Thread) -> Effect
         ensures { (result, self.new) ≡ rwunlock_row t self.old }
     {
@@ -252,7 +252,7 @@ impl Model for RwLocks {
 }
 
 impl RwLocks {
-    /// 64 locks that nobody holds.
+    /// 64 locks that no thread holds.
     pub fn new() -> RwLocks
         ensures { result ≡ all_unheld }
     {
@@ -261,7 +261,7 @@ impl RwLocks {
         }
     }
 
-    /// `rdlock(r)`, called by thread `t`: where there is no writer and nobody waits, `t` becomes a reader, and the
+    /// `rdlock(r)`, called by thread `t`: if there is no writer and no thread waits, `t` becomes a reader, and the
     /// answer is 0; else it waits at the end of the queue, to read. EINVAL: the number is above 63; EDEADLK: `t` is the
     /// writer; EAGAIN: `t` is a reader (POSIX.1-2017, pthread_rwlock_rdlock).
     pub fn rdlock(&mut self, t: Thread, r: u32) -> Effect
@@ -279,7 +279,7 @@ impl RwLocks {
         )
     }
 
-    /// `wrlock(r)`, called by thread `t`: where nobody holds the lock, `t` becomes its writer, and the answer is 0;
+    /// `wrlock(r)`, called by thread `t`: if no thread holds the lock, `t` becomes its writer, and the answer is 0;
     /// else it waits at the end of the queue, to write. EINVAL: the number is above 63; EDEADLK: `t` is the writer or a
     /// reader (POSIX.1-2017, pthread_rwlock_wrlock).
     pub fn wrlock(&mut self, t: Thread, r: u32) -> Effect
@@ -297,17 +297,17 @@ impl RwLocks {
         )
     }
 
-    /// `rwunlock(r)`, called by thread `t`, which holds the lock: it lets go, and the answer is 0. Where no writer is
-    /// left, all who wait to read before the first who wants to write become readers, and are woken; where then nobody
-    /// holds the lock, the first who waits becomes its writer, and is woken. EINVAL: the number is above 63; EPERM: `t`
-    /// doesn't hold the lock (POSIX.1-2017, pthread_rwlock_unlock).
+    /// `rwunlock(r)`, called by thread `t`, which holds the lock: `t` releases it, and the answer is 0. If no writer
+    /// remains, all threads that wait to read before the first that waits to write become readers, and are woken. If
+    /// then no thread holds the lock, the first waiting thread becomes its writer, and is woken. EINVAL: the number is
+    /// above 63; EPERM: `t` doesn't hold the lock (POSIX.1-2017, pthread_rwlock_unlock).
     pub fn rwunlock(&mut self, t: Thread, r: u32) -> Effect
         ensures { (result, self.new) ≡ tables.at_cell unheld (rwunlock_row t) self.old r }
     {
         at_cell(&mut self.cells, r, |cell: &mut Cell| cell.rwunlock(t))
     }
 
-    /// `trywrlock(r)`, called by thread `t`: where nobody holds the lock, `t` becomes its writer, and the answer is 0;
+    /// `trywrlock(r)`, called by thread `t`: if no thread holds the lock, `t` becomes its writer, and the answer is 0;
     /// else EBUSY. A number above 63 is EINVAL (POSIX.1-2017, pthread_rwlock_trywrlock).
     pub fn trywrlock(&mut self, t: Thread, r: u32) -> Effect
         ensures { (result, self.new) ≡ tables.at_cell unheld (trywrlock_row t) self.old r }

@@ -1,4 +1,5 @@
-//! The 64 semaphores of a guest, which hand a post over to who has waited longest. No call takes memory.
+//! The 64 semaphores of a guest, each of which gives a post to the thread that has waited longest. No call allocates
+//! memory.
 
 ghost use Rattle.std.specs.Prelude.{◌≡◌, ◌<◌, ◌≤◌, length};
 ghost use Rattle.guest_call.specs.Queues.{waits};
@@ -17,7 +18,7 @@ use std::marker::Model;
 /// The largest value of a semaphore (POSIX.1-2017, `<limits.h>`, SEM_VALUE_MAX; the number is Linux's).
 pub const LARGEST_VALUE: u32 = 2_147_483_647;
 
-/// One semaphore: its value, which is at most the largest, and who waits for a post.
+/// One semaphore: its value, which is at most the largest, and the threads that wait for a post.
 #[derive(Drop)]
 struct Cell {
     value: u32,
@@ -36,7 +37,7 @@ impl Model for Cell {
 }
 
 impl Cell {
-    /// A semaphore of value 0, with nobody waiting.
+    /// A semaphore of value 0, with no thread waiting.
     fn unposted() -> Cell
         ensures { result ≡ unposted }
     {
@@ -46,7 +47,7 @@ impl Cell {
         }
     }
 
-    /// Thread `t` takes one of the value, or waits.
+    /// Thread `t` lowers the value by one, or waits.
     fn wait(&mut self, t: Thread) -> Effect
         requires { length self.old.queue < THREADS }
         ensures { (result, self.new) ≡ sem_wait_row t self.old }
@@ -59,7 +60,7 @@ impl Cell {
         Effect::answers(0)
     }
 
-    /// A thread takes one of the value, or is refused.
+    /// A thread lowers the value by one, or is refused.
     fn trywait(&mut self) -> Effect
         ensures { (result, self.new) ≡ sem_trywait_row self.old }
     {
@@ -70,7 +71,7 @@ impl Cell {
         Effect::answers(0)
     }
 
-    /// A post goes to the first who waits, or else to the value.
+    /// A post goes to the first waiting thread, or else raises the value by one.
     fn post(&mut self) -> Effect
         ensures { (result, self.new) ≡ sem_post_row self.old }
     {
@@ -86,7 +87,7 @@ impl Cell {
         Effect::answers(0)
     }
 
-    /// The value becomes `n`, unless somebody waits.
+    /// The value becomes `n`, unless a thread waits.
     fn init(&mut self, n: u32) -> Effect
         requires { n ≤ largest_value }
         ensures { (result, self.new) ≡ sem_init_row n self.old }
@@ -118,7 +119,7 @@ impl Model for Semaphores {
 }
 
 impl Semaphores {
-    /// 64 semaphores of value 0, with nobody waiting.
+    /// 64 semaphores of value 0, with no thread waiting.
     pub fn new() -> Semaphores
         ensures { result ≡ all_unposted }
     {
@@ -127,8 +128,8 @@ impl Semaphores {
         }
     }
 
-    /// `sem_wait(s)`, called by thread `t`: a value above 0 is taken down by one, and the answer is 0; else `t` waits
-    /// at the end of the queue, and a post will answer it 0. A number above 63 is EINVAL (POSIX.1-2017, sem_wait).
+    /// `sem_wait(s)`, called by thread `t`: a value above 0 is lowered by one, and the answer is 0; else `t` waits at
+    /// the end of the queue, until a post answers it with 0. A number above 63 is EINVAL (POSIX.1-2017, sem_wait).
     pub fn wait(&mut self, t: Thread, s: u32) -> Effect
         requires free { waits semaphore_queue self.old t ≡ 0 }
         ensures { (result, self.new) ≡ tables.at_cell unposted (sem_wait_row t) self.old s }
@@ -144,7 +145,7 @@ impl Semaphores {
         )
     }
 
-    /// `sem_trywait(s)`, called by a thread: a value above 0 is taken down by one, and the answer is 0; else EAGAIN. A
+    /// `sem_trywait(s)`, called by a thread: a value above 0 is lowered by one, and the answer is 0; else EAGAIN. A
     /// number above 63 is EINVAL (POSIX.1-2017, sem_trywait).
     pub fn trywait(&mut self, _t: Thread, s: u32) -> Effect
         ensures { (result, self.new) ≡ tables.at_cell unposted sem_trywait_row self.old s }
@@ -152,8 +153,8 @@ impl Semaphores {
         at_cell(&mut self.cells, s, Cell::trywait)
     }
 
-    /// `sem_post(s)`, called by a thread: the answer is 0, and the first who waits is woken, while the value stays;
-    /// with nobody waiting the value goes up by one. EINVAL: the number is above 63; EOVERFLOW: nobody waits, and the
+    /// `sem_post(s)`, called by a thread: the answer is 0. The first waiting thread is woken, and the value stays; if
+    /// no thread waits, the value rises by one. EINVAL: the number is above 63; EOVERFLOW: no thread waits, and the
     /// value is 2,147,483,647, the largest (POSIX.1-2017, sem_post).
     pub fn post(&mut self, _t: Thread, s: u32) -> Effect
         ensures { (result, self.new) ≡ tables.at_cell unposted sem_post_row self.old s }
@@ -162,7 +163,7 @@ impl Semaphores {
     }
 
     /// `sem_init(s, n)`, called by a thread: the value becomes `n`, and the answer is 0. EINVAL: the number is above
-    /// 63, or `n` above 2,147,483,647; EBUSY: somebody waits (POSIX.1-2017, sem_init).
+    /// 63, or `n` above 2,147,483,647; EBUSY: a thread waits (POSIX.1-2017, sem_init).
     pub fn init(&mut self, _t: Thread, s: u32, n: u32) -> Effect
         ensures { (result, self.new) ≡ sem_init_at n self.old s }
     {

@@ -1,4 +1,4 @@
-//! The 64 objects of one kind, and a row done at the object of a number. No call takes memory.
+//! The 64 objects of one kind, and a row done at the object of a number. No call allocates memory.
 
 ghost use Rattle.std.specs.Prelude.{◌≡◌, ◌<◌, replicate, slice_index_or};
 ghost use Rattle.std.specs.Fn.{FnOnceTakesAtMut};
@@ -10,7 +10,7 @@ use super::effect::Effect;
 use guest_call::{EINVAL, OBJECTS};
 use std::array;
 
-/// The objects of one kind, each as it is made.
+/// The objects of one kind, each made by `make`.
 pub fn all_of<C, F: Fn() -> C>(make: F) -> [C; OBJECTS]
     requires { F.IsAlwaysCallable make }
     ensures { (made : C) → ((f : F) (c : C) → F.post f c → c ≡ made)
@@ -24,7 +24,7 @@ pub fn all_of<C, F: Fn() -> C>(make: F) -> [C; OBJECTS]
     )
 }
 
-/// Does a row at the object of this number, and gives what the row gives. None exactly where the number is above 63.
+/// Does a row at the object of this number, and returns its result. None exactly if the number is above 63.
 pub fn row_at<C, T, R: FnOnce(&mut C) -> T>(
     cells: &mut [C; OBJECTS],
     number: u32,

@@ -1,4 +1,4 @@
-//! The threads of a guest: who has ended with which value, and who joins whom. No call takes memory.
+//! The threads of a guest: which have ended, with which value, and which joins which. No call allocates memory.
 
 ghost use Rattle.std.specs.Prelude.{◌≡◌, ◌<◌, ◌≤◌, ◌∷◌, [], None, is_some, length};
 ghost use Rattle.guest_call.specs.Queues.{waits};
@@ -10,7 +10,7 @@ use arrayvec::ArrayVec;
 use guest_call::{EAGAIN, EDEADLK, EINVAL, ESRCH, Fate, THREADS, Thread};
 use std::marker::Model;
 
-/// One thread: who joins it or has joined it, and its value once it has ended.
+/// One thread: the thread that joins it or has joined it, and its value once it has ended.
 #[derive(Clone, Copy)]
 struct Seat {
     joiner: Option<Thread>,
@@ -46,7 +46,7 @@ impl Seat {
         self.joiner.is_some()
     }
 
-    /// Who waits for the thread to end.
+    /// The thread that waits for this one to end, if any.
     fn waiting(&self) -> Queue
         ensures { result ≡ member_queue self.now }
     {
@@ -57,7 +57,7 @@ impl Seat {
         waiting
     }
 
-    /// The thread ends with this value. Gives who waited for that.
+    /// The thread ends with this value. Returns the thread that waited for its end, if any.
     fn end(&mut self, value: u32) -> Queue
         ensures waiting { result ≡ member_queue self.old }
         ensures ended { self.new ≡ ended_with value self.old }
@@ -67,7 +67,7 @@ impl Seat {
         waiting
     }
 
-    /// The thread has the joiner `t`.
+    /// Thread `t` becomes the joiner of this one.
     fn take_joiner(&mut self, t: Thread) -> Effect
         ensures effect { result ≡ joins self.old.value }
         ensures joined { self.new ≡ joined_by t self.old }
@@ -151,7 +151,7 @@ impl Threads {
         Threads { seats }
     }
 
-    /// How many threads exist, ended ones counted.
+    /// How many threads exist, ended ones included.
     pub fn len(&self) -> usize
         ensures count { result ≡ length self.now }
         ensures fits { result ≤ THREADS }
@@ -160,7 +160,7 @@ impl Threads {
     }
 
     /// `create(pc, argument)`, called by a thread: the answer is the new thread's number, the least that is unused. A
-    /// pc that isn't a multiple of 4 is EINVAL; where 32 threads exist the answer is EAGAIN (POSIX.1-2017,
+    /// pc that isn't a multiple of 4 is EINVAL; if 32 threads exist, the answer is EAGAIN (POSIX.1-2017,
     /// pthread_create).
     pub fn create(&mut self, _t: Thread, pc: u32, argument: u32) -> Effect
         ensures { (result, self.new) ≡ create_row pc argument self.old }
@@ -168,8 +168,8 @@ impl Threads {
         create_in(&mut self.seats, pc, argument)
     }
 
-    /// `thread_exit(value)`, called by thread `t`, which ends: who waits to join it is woken and told the value
-    /// (POSIX.1-2017, pthread_exit).
+    /// `thread_exit(value)`, called by thread `t`, which ends: the thread that waits to join it is woken and receives
+    /// the value (POSIX.1-2017, pthread_exit).
     pub fn thread_exit(&mut self, t: Thread, value: u32) -> Effect
         requires exists { t < length self.old }
         ensures { (result, self.new) ≡ thread_exit_row t value self.old }
@@ -177,8 +177,8 @@ impl Threads {
         thread_exit_in(&mut self.seats, t, value)
     }
 
-    /// `join(u)`, called by thread `t`: where thread `u` has ended the answer is 0 with its value, and else `t` waits
-    /// for its end. ESRCH: there is no thread `u`; EDEADLK: it is `t`; EINVAL: it has or had a joiner (POSIX.1-2017,
+    /// `join(u)`, called by thread `t`: if thread `u` has ended, the answer is 0 with its value; else `t` waits for its
+    /// end. ESRCH: there is no thread `u`; EDEADLK: it is `t`; EINVAL: it has or had a joiner (POSIX.1-2017,
     /// pthread_join).
     pub fn join(&mut self, t: Thread, u: u32) -> Effect
         requires exists { t < length self.old }

@@ -7,8 +7,8 @@ use std::marker::Model;
 use std::thread::Threads;
 
 /// How many read pages were compared with those of a view. Only `has_read` raises it, by one, and `merge`, by what
-/// another one counts. Outside of this crate nothing that isn't lent the runtime can make one. A clause sees a number;
-/// at run time it takes no bytes, and a program can't read it.
+/// another one counts. Outside this crate only code that borrows the runtime can make one. A clause sees a number; at
+/// run time it takes no bytes, and a program can't read it.
 #[derive(Drop)]
 pub struct Compared {
     tally: Tally,
@@ -23,14 +23,14 @@ impl Model for Compared {
 }
 
 impl Compared {
-    /// A counter that nothing has raised, made by who is lent the runtime.
+    /// A counter that nothing has raised, made by a caller that borrows the runtime.
     pub fn new<R: Threads>(_rt: &R) -> Compared
         ensures { result ≡ 0 }
     {
         Compared::unread()
     }
 
-    /// A counter that nobody reads.
+    /// A counter that isn't read.
     pub(super) fn unread() -> Compared
         ensures { result ≡ 0 }
     {
@@ -39,7 +39,7 @@ impl Compared {
         }
     }
 
-    /// One page more is compared.
+    /// Counts one more compared page.
     #[inline(always)]
     pub(super) fn count(&mut self)
         ensures { self.new ≡ self.old + 1 }
@@ -47,7 +47,7 @@ impl Compared {
         self.tally.raise(1);
     }
 
-    /// The pages of another counter are counted too.
+    /// Counts the pages of another counter too.
     pub fn merge(&mut self, other: Compared)
         ensures { self.new ≡ self.old + other }
     {

@@ -1,4 +1,4 @@
-//! Whether a record stands for a thread's next thunk.
+//! Whether a record fits a thread's next thunk.
 
 ghost use Rattle.std.specs.Prelude.{◌≡◌, ◌+◌};
 ghost use Rattle.std.specs.Str.{bytes_eq};
@@ -13,7 +13,7 @@ use page_store::{PageTable, ReadPage};
 use rv_isa::Regs;
 use thunk_spec::ThunkEnd;
 
-/// Whether a view has the bytes of a read page. One past its end it hasn't. Either counts as a page that is compared.
+/// Whether a view has the bytes of a read page. It has none of a page past its end, which counts as compared too.
 #[tactic(auto, using(crate::proofs::Past::no_bytes))]
 pub fn has_read(table: &PageTable, read: &ReadPage, compared: &mut Compared) -> bool
     ensures has { result ≡ bytes_eq (page_of table.now read.now.slot) read.now.bytes }
@@ -41,8 +41,8 @@ fn has_pages(table: &PageTable, reads: &[ReadPage], compared: &mut Compared) -> 
     true
 }
 
-/// Whether a thunk of this fuel may have ended so after so many turns: they are no more than the
-/// fuel, and just as many where the fuel ended it.
+/// Whether a thunk of this fuel may have ended in this way after so many turns: they are no more than the fuel, and
+/// exactly as many if the fuel ended it.
 #[tactic(auto, unfolding(thunk_spec::specs::Record::may_end))]
 fn is_within_fuel(fuel: u32, end: ThunkEnd, count: u32) -> bool
     ensures { result ≡ may_end fuel end count }
@@ -53,18 +53,17 @@ fn is_within_fuel(fuel: u32, end: ThunkEnd, count: u32) -> bool
     }
 }
 
-/// Whether a record stands for the next thunk of a thread that has made `number` steps, and has
-/// these registers and this view, in a run of this fuel: it is of the same number, its first
-/// registers are these, the view has the bytes of each of its read pages, and a thunk of this fuel
-/// may have ended as it did. Takes no memory.
+/// Whether a record fits the next thunk of a thread that has made `number` steps, and has these registers and this
+/// view, in a run of this fuel: it is of the same number, its first registers are these, the view has the bytes of each
+/// of its read pages, and a thunk of this fuel may have ended as it did. Allocates no memory.
 pub fn fits(rec: &Record, number: u32, regs: &Regs, table: &PageTable, fuel: u32) -> bool
     ensures { result ≡ fits_at rec.now number regs.now table.now fuel }
 {
     fits_counted(rec, number, regs, table, fuel, &mut Compared::unread())
 }
 
-/// The same. The counter rises by the read pages that are compared: those up to the first that differs, and none where
-/// the number or the registers differ.
+/// Like `fits`. The counter rises by the number of read pages that are compared: those up to the first that differs,
+/// and none if the number or the registers differ.
 #[tactic(auto, unfolding(thunk_spec::specs::Record::fits_at))]
 pub fn fits_counted(
     rec: &Record,

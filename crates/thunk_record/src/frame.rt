@@ -1,4 +1,4 @@
-//! What every thunk of a run depends on beside its registers and its view.
+//! What every thunk of a run depends on besides its registers and its view.
 
 ghost use Rattle.std.specs.Prelude.{◌≡◌, Decides};
 ghost use Rattle.std.specs.Arc.{arc_value};
@@ -10,8 +10,8 @@ use rv_code::Code;
 use std::marker::Model;
 use std::sync::Arc;
 
-/// The page map of a run, and the most turns of one thunk; and decoded pages, which make its turns faster, and mean
-/// nothing. A clause sees a `Frame` of `thunk_spec`.
+/// The page map of a run, and the most turns of one thunk; and decoded pages, which only make its turns faster. A
+/// clause sees a `Frame` of `thunk_spec`.
 #[derive(Drop)]
 pub struct Frame {
     pages: Arc<PageMap>,
@@ -48,7 +48,7 @@ impl Frame {
         &self.pages
     }
 
-    /// The page map, as it is shared.
+    /// The shared page map.
     #[inline(always)]
     pub fn shared_map(&self) -> &Arc<PageMap>
         ensures { arc_value result.now ≡ self.now.map }
@@ -64,14 +64,14 @@ impl Frame {
         self.turns
     }
 
-    /// The decoded pages, by slot. Nothing is said of them: who uses one looks whether a view has its bytes.
+    /// The decoded pages, by slot. Nothing is promised of them: a user of one checks whether a view has its bytes.
     #[inline(always)]
     pub fn code(&self) -> &Code {
         &self.decoded
     }
 }
 
-/// Two frames are equal where they have the same page map and the same fuel.
+/// Two frames are equal if they have the same page map and the same fuel.
 impl PartialEq for Frame {
     ghost eq = { is_same_frame };
 

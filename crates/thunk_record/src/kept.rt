@@ -18,7 +18,7 @@ pub struct Kept {
     pub finish: Regs,
     /// How it ended.
     pub end: ThunkEnd,
-    /// How many turns it made, the last one among them.
+    /// How many turns it made, the last one included.
     pub count: u32,
 }
 
@@ -117,7 +117,7 @@ impl Record {
         self.kept.end
     }
 
-    /// How many turns it made, the last one among them.
+    /// How many turns it made, the last one included.
     #[inline(always)]
     pub fn count(&self) -> u32
         ensures { result ≡ self.now.kept.count }

@@ -1,4 +1,4 @@
-//! What is kept of a finished thunk, and whether it stands for a thread's next one.
+//! What is kept of a finished thunk, and whether it fits a thread's next one.
 #![tactic(auto)]
 
 mod compared;

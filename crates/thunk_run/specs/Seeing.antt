@@ -5,7 +5,7 @@ use Rattle.rv_code.specs.Meaning.{Decoded}
 use Rattle.thunk_run.specs.declared.pages.Seen.{Seen}
 use Rattle.thunk_run.specs.declared.pages.Seen.TheVariants.{Nothing, Same}
 
--- Where a slot was seen to be the same, the view has the bytes of the decoded page of that slot.
+-- If a slot was seen to be the same, the view has the bytes of the decoded page of that slot.
 abbrev pub AreSeen : List (Option Decoded) → Memory → List Seen → Type 0
 AreSeen code view seen =
     (slot : ℕ) (page : Decoded) → slice_index_or seen slot Nothing ≡ Same → slice_index_or code slot None ≡ Some page

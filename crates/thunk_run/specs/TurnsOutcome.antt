@@ -1,4 +1,4 @@
--- What turns leave, with the memory that they worked on.
+-- The result of turns, with the memory that they worked on.
 use Rattle.std.specs.Prelude.{ℕ, ◌+◌}
 use Rattle.isa_spec.specs.Registers.{Registers}
 use Rattle.memory_spec.specs.Workspace.{Workspace, after_taking, after_storing}
@@ -6,23 +6,23 @@ use Rattle.thunk_spec.specs.declared.ends.ThunkEnd.{ThunkEnd}
 use Rattle.thunk_spec.specs.Put.{put_addresses}
 use Rattle.thunk_spec.specs.Thunk.{Thunk, turns}
 
--- What turns leave: registers, how they ended, how many they were, and the memory that they worked on.
+-- The result of turns: registers, how they ended, how many they were, and the memory that they worked on.
 pub record TurnsOutcome : Type 0 where
   pub regs : Registers
   pub end : ThunkEnd
   pub count : ℕ
   pub workspace : Workspace
 
--- What turns of a thunk leave of a memory that a thread works on.
+-- The result of a thunk's turns on a memory that a thread works on.
 abbrev pub left_by : Workspace → Thunk → TurnsOutcome
 left_by w t =
     record { regs = t.regs; end = t.end; count = t.count; workspace = after_storing (after_taking w t.taken) t.stores }
 
--- What so many turns of a memory and registers leave at most.
+-- The result of at most so many turns, from a memory and registers.
 abbrev pub left_after : ℕ → Workspace → Registers → TurnsOutcome
 left_after fuel w r = left_by w (turns w.map fuel w.memory r)
 
--- The same after so many turns before.
+-- The same, with so many earlier turns counted.
 abbrev pub counted : ℕ → TurnsOutcome → TurnsOutcome
 counted before l = record l { count = before + l.count }
 

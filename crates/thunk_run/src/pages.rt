@@ -26,7 +26,7 @@ pub(super) enum Seen {
     Other,
 }
 
-/// Looks whether the view has a decoded page's bytes in a slot, and notes it.
+/// Compares the view's page in a slot with a decoded page's bytes, and notes the result.
 #[cold]
 #[inline(never)]
 fn look<M: Mem>(mem: &M, page: &CodePage, seen: &mut [Seen], slot: usize) -> bool
@@ -40,7 +40,7 @@ fn look<M: Mem>(mem: &M, page: &CodePage, seen: &mut [Seen], slot: usize) -> boo
     same
 }
 
-/// The decoded page of a slot, where the view has its bytes. The bytes are compared once.
+/// The decoded page of a slot, if the view has its bytes. The bytes are compared once.
 #[inline(always)]
 fn page_shown<'a, M: Mem>(
     mem: &M,
@@ -66,8 +66,9 @@ fn page_shown<'a, M: Mem>(
     if shown { Some(page) } else { None }
 }
 
-/// Enters the page of the pc, where its decoded page may be run from: it is the page of that number, and the view has
-/// its bytes. Entering it changes nothing of what turns leave, since the next turn takes a byte of the page anyway.
+/// Enters the page of the pc, and returns its decoded page if it may be run from: it is the page of that number, and
+/// the view has its bytes. Entering a page doesn't change the result of turns, since the next turn takes a byte of it
+/// anyway.
 #[inline(always)]
 fn enter_page<'a, M: Mem>(
     regs: &Regs,
@@ -98,12 +99,12 @@ fn enter_page<'a, M: Mem>(
     }
 }
 
-/// Makes turns from decoded pages while there is room and one after the other can be run from. How many they were; the
-/// counter rises by their number. They are the first turns of any fuel that is as much as the room at least.
+/// Makes turns from decoded pages, while there is room and the next page can be run from. Returns how many they were;
+/// the counter rises by their number. They are the first turns with any fuel of at least `room`.
 ///
 /// # Errors
 ///
-/// An error where the host's memory ran out.
+/// An error if the host's memory ran out.
 #[inline(always)]
 pub(super) fn run_pages<M: Mem>(
     regs: &mut Regs,

@@ -68,7 +68,7 @@ pub fn appends_all(map: &PageMap, range: Range) -> bool
         && all_readable(map, range)
 }
 
-/// The bytes that a call appends to the output; none where it is no put that appends its bytes.
+/// The bytes that a call appends to the output; none if it is no put that appends its bytes.
 #[tactic(auto, using(crate::proofs::Ends::readable_none))]
 fn range_of(map: &PageMap, call: Option<Call>) -> Range
     ensures addresses { range_with_len result.start result.len ≡ appended_by map.now call }
@@ -89,7 +89,7 @@ fn range_of(map: &PageMap, call: Option<Call>) -> Range
     }
 }
 
-/// The bytes that the thunk with this end and these registers appends; none where no put ends it.
+/// The bytes that the thunk with this end and these registers appends; none if no put ends it.
 #[tactic(auto, unfolding(thunk_spec::specs::Put::put_addresses), using(crate::proofs::Ends::readable_none))]
 pub fn put_range(map: &PageMap, end: ThunkEnd, regs: &Regs) -> Range
     ensures addresses { range_with_len result.start result.len
@@ -108,7 +108,7 @@ pub fn put_range(map: &PageMap, end: ThunkEnd, regs: &Regs) -> Range
 ///
 /// # Errors
 ///
-/// An error where the host's memory ran out.
+/// An error if the host's memory ran out.
 #[tactic(auto, unfolding(memory_spec::specs::Access::loaded))]
 fn take_byte<M: Mem>(mem: &mut M, address: u32) -> Result<(), AllocError>
     requires { allows read_right (permission_at (M.workspace mem.old).map address) ≡ true }
@@ -121,12 +121,12 @@ fn take_byte<M: Mem>(mem: &mut M, address: u32) -> Result<(), AllocError>
     }
 }
 
-/// Takes the bytes of a range that may be read, which are no more than a page's: a byte of each page
-/// stands for them all.
+/// Takes the bytes of a range that may be read, which are no more than a page's: a byte of each page is taken for them
+/// all.
 ///
 /// # Errors
 ///
-/// An error where the host's memory ran out.
+/// An error if the host's memory ran out.
 #[tactic(auto, using(crate::proofs::Ends::readable_first, crate::proofs::Ends::readable_last, crate::proofs::Ends::taking_ends))]
 pub(super) fn take_range<M: Mem>(mem: &mut M, range: Range) -> Result<(), AllocError>
     requires few { range.len ≤ 4096 }

@@ -17,8 +17,8 @@ use std::sync::Arc;
 use thunk_record::{Frame, Kept, Record};
 
 impl Job {
-    /// The next thunk of a thread that has made `number` steps, with these registers, on this view.
-    /// The view has as many pages as the map of the frame. Takes no memory.
+    /// The next thunk of a thread that has made `number` steps, with these registers, on this view. The view has as
+    /// many pages as the map of the frame. Allocates no memory.
     pub fn new(frame: Arc<Frame>, thread: u8, number: u32, regs: Regs, view: Arc<PageTable>) -> Job
         requires { length (arc_value view) ≡ length (arc_value frame).map }
         ensures frame { result.frame ≡ frame }
@@ -37,11 +37,11 @@ impl Job {
     }
 }
 
-/// Runs the thunk of a job, and gives what is kept of it. The watch is told where it runs long.
+/// Runs the thunk of a job, and returns what is kept of it. The watch is called if it runs long.
 ///
 /// # Errors
 ///
-/// An error where the host's memory ran out.
+/// An error if the host's memory ran out.
 fn run_thunk<W: Watch>(
     alloc: Global,
     job: &Job,
@@ -68,13 +68,13 @@ fn run_thunk<W: Watch>(
     })
 }
 
-/// Runs the thunk of a job on its view: turns until an ECALL, a trap or the end of the fuel, and the
-/// bytes that a put takes. The view is as before; what was stored stands in the record. The counter
-/// rises by the number of turns, which are one at least and no more than the fuel.
+/// Runs the thunk of a job on its view: turns until an ECALL, a trap or the end of the fuel, and the bytes that a put
+/// takes. The view doesn't change; what was stored is in the record. The counter rises by the number of turns: at least
+/// one, if there is any fuel, and no more than the fuel.
 ///
 /// # Errors
 ///
-/// An error where the host's memory ran out; the counter may have risen, and is never lower.
+/// An error if the host's memory ran out; the counter may have risen, and is never lower.
 pub fn execute(alloc: Global, job: &Job, turns: &mut Turns) -> Result<Run, AllocError>
     ensures run { IfOk result (λ run. IsRunOf job.now run) }
     ensures within { IfOk result
@@ -85,11 +85,11 @@ pub fn execute(alloc: Global, job: &Job, turns: &mut Turns) -> Result<Run, Alloc
     execute_watched(alloc, job, turns, &Unwatched)
 }
 
-/// Runs the thunk of a job as `execute` does, and tells a watch where it runs long.
+/// Runs the thunk of a job as `execute` does, and calls a watch if it runs long.
 ///
 /// # Errors
 ///
-/// An error where the host's memory ran out; the counter may have risen, and is never lower.
+/// An error if the host's memory ran out; the counter may have risen, and is never lower.
 #[tactic(auto, using(crate::proofs::Counting::kept_within))]
 pub fn execute_watched<W: Watch>(
     alloc: Global,

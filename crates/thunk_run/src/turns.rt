@@ -18,20 +18,20 @@ use thunk_spec::{Outcome, ThunkEnd};
 pub(super) struct Turned {
     /// How the last of them ended the thunk.
     pub end: ThunkEnd,
-    /// How many there were, the last one among them.
+    /// How many there were, the last one included.
     pub count: u32,
 }
 
-/// How many turns pages may be run for before it is looked whether the thunk runs long: past `LONG_TURNS` by as much
-/// room as a page needs, since a page is left where there is less.
+/// How many turns may be made from pages before the check whether the thunk runs long: `LONG_TURNS` and the room that a
+/// page needs, since no page is run from with less room.
 const FIRST_TURNS: u32 = LONG_TURNS + PAGE_TURNS;
 
-/// Makes turns up to the first that calls or traps, or as many as the fuel allows: from decoded pages where they can be
-/// run from, else one at a time. The counter rises by the number of turns. The watch is told where they are many.
+/// Makes turns up to the first that calls or traps, or as many as the fuel allows: from decoded pages if they can be
+/// run from, else one at a time. The counter rises by the number of turns. The watch is called if there are many.
 ///
 /// # Errors
 ///
-/// An error where the host's memory ran out.
+/// An error if the host's memory ran out.
 pub(super) fn make_turns<M: Mem, W: Watch>(
     alloc: Global,
     frame: &Frame,
@@ -95,7 +95,7 @@ pub(super) fn make_turns<M: Mem, W: Watch>(
 ///
 /// # Errors
 ///
-/// An error where the host's memory ran out.
+/// An error if the host's memory ran out.
 pub(super) fn make_thunk<M: Mem, W: Watch>(
     alloc: Global,
     frame: &Frame,

@@ -1,16 +1,16 @@
-//! Who is told when a thunk runs long.
+//! What is called when a thunk runs long.
 
-/// How many turns a thunk makes before it is said to run long: about as many as take as long as it costs to wake a
-/// sleeping worker. A shorter thunk is done before somebody who was woken for what it leaves could begin.
+/// How many turns a thunk makes before it counts as long: about as many as take the time to wake a sleeping worker. A
+/// shorter thunk is finished before a worker that was woken for the other steps could start.
 pub const LONG_TURNS: u32 = 2_048;
 
-/// Who is told when a thunk runs long. It promises nothing.
+/// A hook that is called when a thunk runs long. Nothing is promised of it.
 pub trait Watch {
-    /// A thunk has made `LONG_TURNS` turns at least, and goes on. Comes once at most in a thunk.
+    /// Called when a thunk has made at least `LONG_TURNS` turns and continues, at most once in a thunk.
     fn runs_long(&self);
 }
 
-/// The watch of a thunk that nobody looks at.
+/// A watch that does nothing.
 #[derive(Clone, Copy)]
 pub struct Unwatched;
 

@@ -37,7 +37,8 @@ delta_from k (mask ∷ masks) (page ∷ pages) =
     if is_stored mask then (record { slot = k; mask = mask; bytes = chosen mask page }) ∷ delta_from (suc k) masks pages
     else delta_from (suc k) masks pages
 
--- What stores leave, looking at no view: the places that they wrote, and what they leave there in a memory of zeros.
+-- The delta of stores, apart from any view: the places that they wrote, and the bytes there after them in a memory of
+-- zeros.
 unfoldable pub delta_of : List Mapped → List StoredByte → List PageDelta
 delta_of map stores = delta_from 0 (marked map (on_each no_marks map) stores) (laid map (on_each zero_page map) stores)
 

@@ -1,4 +1,4 @@
--- The bytes that a put appends to the output: read in the view with the thunk's own stores laid over it.
+-- The bytes that a put appends to the output: read in the view with the thunk's own stores applied.
 use Rattle.std.specs.Prelude.{ℕ, ◌+◌, ◌%◌, Bool, if◌then◌else◌, List, [], Option, Some, None, map, slice_index_or}
 use Rattle.std.specs.List.{list_all, range_with_len}
 use Rattle.isa_spec.specs.Registers.{Registers, register}
@@ -10,7 +10,7 @@ use Rattle.guest_call.specs.Objects.{appends}
 use Rattle.thunk_spec.specs.declared.ends.ThunkEnd.{ThunkEnd}
 use Rattle.thunk_spec.specs.declared.ends.ThunkEnd.TheVariants as thunk_end
 
--- The call that an ECALL at these registers asks for: its number stands in a7, its arguments in a0 and a1.
+-- The call that an ECALL at these registers requests: its number is in a7, its arguments in a0 and a1.
 abbrev pub call_at : Registers → Option Call
 call_at r = call_of (register r 17) (register r 10) (register r 11)
 
@@ -19,7 +19,7 @@ unfoldable pub is_readable : List Mapped → ℕ → ℕ → Bool
 is_readable pages address count =
     list_all (λ a. allows read_right (permission_at pages a)) (range_with_len address count)
 
--- The addresses of the bytes that a call appends to the output: all of a put that appends its bytes, and none else.
+-- The addresses of the bytes that a call appends to the output: all of a put that appends its bytes, else none.
 -- (POSIX.1-2017, write)
 abbrev pub appended_by : List Mapped → Option Call → List ℕ
 appended_by pages (Some (Put address count)) =

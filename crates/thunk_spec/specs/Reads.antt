@@ -15,7 +15,7 @@ reads_from k [] view = []
 reads_from k (true ∷ taken) view = (record { slot = k; bytes = page_of view k }) ∷ reads_from (suc k) taken view
 reads_from k (false ∷ taken) view = reads_from (suc k) taken view
 
--- The read pages where bytes were taken at these addresses.
+-- The read pages of a thunk that took bytes at these addresses.
 unfoldable pub reads_of : List Mapped → Memory → List ℕ → List ReadPage
 reads_of map view addresses = reads_from 0 (taken_at map (on_each false map) addresses) view
 

@@ -38,20 +38,20 @@ kept_thunk f view r = kept f.map view (thunk f view r)
 unfoldable pub put_of : List Mapped → Memory → Kept → List ℕ
 put_of map view k = bytes_at map (masked view k.delta) (put_addresses map k.end k.finish)
 
--- A record: the thunk of a thread at a number of steps made, from its start registers on.
+-- A record: the thunk of a thread's step of this number, from its start registers on.
 pub record Record : Type 0 where
   pub thread : ℕ
   pub number : ℕ
   pub start : Registers
   pub kept : Kept
 
--- What is kept is true of these start registers: on every view that has the bytes of the read pages the thunk leaves
--- exactly this.
+-- What is kept is true of these start registers: on every view that has the bytes of the read pages, exactly this is
+-- kept of the thunk.
 pub record IsTrue (f : Frame) (start : Registers) (k : Kept) : Type 0 where
   pub same : (view : Memory) → IsMemory f.map view → has view k.reads ≡ true → kept_thunk f view start ≡ k
 
--- Whether a thunk of this fuel may end so after so many turns: they are no more than the fuel, and just as many where
--- the fuel ended it.
+-- Whether a thunk of this fuel may end so after so many turns: they are no more than the fuel, and just as many if the
+-- fuel ended it.
 unfoldable pub may_end : ℕ → ThunkEnd → ℕ → Bool
 may_end fuel thunk_end.Call count = nat_le count fuel
 may_end fuel (thunk_end.Trap cause) count = nat_le count fuel
@@ -64,8 +64,8 @@ fits_at r number regs view fuel =
     (r.number == number) && same_registers r.start regs && has view r.kept.reads
     && may_end fuel r.kept.end r.kept.count
 
--- What is kept stands for the thunk of these registers on this view: written into a memory, its stored bytes leave what
--- the thunk's stores leave; registers, end and count are the thunk's; and so are the bytes of its put.
+-- What is kept can replace the thunk of these registers on this view: writing its stored bytes into a memory is
+-- applying the thunk's stores to it; registers, end and count are the thunk's; and so are the bytes of its put.
 pub record StandsFor (f : Frame) (view memory : Memory) (start : Registers) (k : Kept) : Type 0 where
   pub memory_is : masked memory k.delta ≡ laid f.map memory (thunk f view start).stores
   pub finish_is : k.finish ≡ (thunk f view start).regs

@@ -10,7 +10,7 @@ use Rattle.thunk_spec.specs.declared.ends.ThunkEnd.TheVariants as thunk_end
 use Rattle.thunk_spec.specs.Turn.{Turn, turn}
 use Rattle.thunk_spec.specs.Put.{put_addresses, bytes_at}
 
--- What every thunk of a run depends on beside its registers and its view: the page map, and the most turns of one
+-- What every thunk of a run depends on, besides its registers and its view: the page map, and the most turns of one
 -- thunk.
 pub record Frame : Type 0 where
   pub map : List Mapped
@@ -39,7 +39,8 @@ abbrev pub after_turn : Turn → Thunk → Thunk
 after_turn t rest =
     record rest { count = suc rest.count; taken = t.taken ++ rest.taken; stores = t.stores ++ rest.stores }
 
--- A turn that ended so, and where it leads on the rest, which begins with the turn's stores laid and its registers.
+-- A turn with this outcome and, if the next turn follows, the rest of the thunk, from the turn's registers on and with
+-- its stores applied.
 abbrev pub followed : Outcome → List Mapped → Memory → Turn → (Memory → Registers → Thunk) → Thunk
 followed outcome.Next map memory t rest = after_turn t (rest (laid map memory t.stores) t.regs)
 followed outcome.Call map memory t rest = last_turn thunk_end.Call t
@@ -50,7 +51,7 @@ abbrev pub turns : List Mapped → ℕ → Memory → Registers → Thunk
 turns map zero memory r = no_turn r
 turns map (suc fuel) memory r = followed (turn map memory r).outcome map memory (turn map memory r) (turns map fuel)
 
--- Turns and the put that ends them, which takes its bytes where the thread's own loads would.
+-- Turns and the put that ends them, which takes its bytes as the thread's own loads would: with its stores applied.
 abbrev pub with_put : List Mapped → Memory → Thunk → Thunk
 with_put map view t =
     record t {

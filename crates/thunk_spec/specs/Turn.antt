@@ -29,7 +29,7 @@ pub record Turn : Type 0 where
   pub taken : List ℕ
   pub stores : List StoredByte
 
--- A turn that leads on to the next one.
+-- A turn that the next one follows.
 abbrev pub passed : Registers → List ℕ → List StoredByte → Turn
 passed r taken stores = record { outcome = Next; regs = r; taken = taken; stores = stores }
 
@@ -56,8 +56,8 @@ jumped r linked target =
 abbrev pub linked : Registers → ℕ → Registers
 linked r rd = with_register r rd (sum_of r.pc 4)
 
--- A branch goes to its target where its test holds, else on. (RISC-V unprivileged ISA 20191213, 2.5, Conditional
--- Branches)
+-- A branch goes to its target if its test holds, else to the next instruction. (RISC-V unprivileged ISA 20191213, 2.5,
+-- Conditional Branches)
 abbrev pub branched : Registers → BranchTest → ℕ → ℕ → ℕ → Turn
 branched r test a b imm = if branch_taken test a b then jumped r r (sum_of r.pc imm) else passed (advanced r) [] []
 
@@ -104,7 +104,7 @@ store_turn map r kind address value =
     else stopped (Trap StoreAccess) r)
     else stopped (Trap StoreMisaligned) r
 
--- What an instruction does on a memory and registers, its fetch left out. (RISC-V unprivileged ISA 20191213, ch. 2)
+-- What an instruction does on a memory and registers, without its fetch. (RISC-V unprivileged ISA 20191213, ch. 2)
 abbrev pub executed : List Mapped → Memory → Registers → Instr → Turn
 executed map memory r (instr.Lui rd imm) = computed r rd imm
 executed map memory r (instr.Auipc rd imm) = computed r rd (sum_of r.pc imm)
@@ -123,8 +123,7 @@ executed map memory r instr.Fence = passed (advanced r) [] []
 executed map memory r instr.Ecall = stopped Call r
 executed map memory r instr.Ebreak = stopped (Trap Breakpoint) r
 
--- What a word does: its instruction, or a trap where no row of the table has it. (RISC-V unprivileged ISA 20191213,
--- 2.2)
+-- What a word does: its instruction, or a trap if no row of the table has it. (RISC-V unprivileged ISA 20191213, 2.2)
 abbrev pub word_turn : List Mapped → Memory → Registers → Option Instr → Turn
 word_turn map memory r (Some i) = executed map memory r i
 word_turn map memory r None = stopped (Trap IllegalInstruction) r

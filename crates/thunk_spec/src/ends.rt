@@ -7,7 +7,7 @@ use isa_spec::Cause;
 pub enum Outcome {
     /// The instruction was executed; the next one follows.
     Next,
-    /// The instruction is an ECALL: it asks for an environment call.
+    /// The instruction is an ECALL: it requests an environment call.
     Call,
     /// The instruction trapped, and changed nothing.
     Trap(Cause),
@@ -16,7 +16,7 @@ pub enum Outcome {
 /// How a thunk ends.
 #[derive(Clone, Copy, PartialEq, Eq)]
 pub enum ThunkEnd {
-    /// Its last turn asked for an environment call.
+    /// Its last turn requested an environment call.
     Call,
     /// Its last turn trapped.
     Trap(Cause),

@@ -1,6 +1,6 @@
 //! A turn of a hart, a thunk of many turns, and what a record keeps of a thunk, as definitions; with the laws that turn
 //! and thunk depend on the pages that they took bytes from and on nothing else of the view, that a true record that
-//! fits stands for its thunk, and that it is true under another fuel if it ended within that one. No code but two
+//! fits can replace its thunk, and that it is true under another fuel if it ended within that one. No code but two
 //! plain types.
 #![tactic(auto)]
 
@@ -34,7 +34,7 @@ pub fn thunk_is_local()
         → thunk frame other regs ≡ thunk frame view regs }
 {}
 
-/// Writing the masked last bytes that stores leave is laying the stores in order.
+/// Writing the delta of stores, their last bytes at their places, is applying the stores in order.
 pub fn delta_is_laid()
     ensures { (map : List Mapped) (memory : Memory) (stores : List StoredByte)
         → IsMemory map memory
@@ -54,7 +54,7 @@ pub fn view_has_its_reads()
         → has view (kept_thunk frame view start).reads ≡ true }
 {}
 
-/// What is true of start registers, on a view that has the read pages, stands for the thunk.
+/// What is kept and true of start registers, on a view that has the read pages, can replace the thunk.
 pub fn true_stands_for_thunk()
     ensures { (frame : Frame) (view memory : Memory) (start : Registers) (kept : Kept)
         → IsTrue frame start kept

@@ -8,7 +8,7 @@ use crate::line::{Line, push_line};
 use rv_asm::{Item, elf};
 use std::alloc::{AllocError, Global};
 
-/// A guest: what stands at 0x10000, where it starts.
+/// A guest: its content from 0x10000 on, where it starts.
 #[derive(Clone, Copy)]
 pub struct Guest {
     /// Its lines.
@@ -28,8 +28,8 @@ fn items_of(alloc: Global, lines: &[Line]) -> Result<Vec<Item>, AllocError>
     Ok(items)
 }
 
-/// The executable of a guest, which the loader takes; none where it has no lines, more than 65,536 items or
-/// more than 65,536 bytes of zeros.
+/// The executable of a guest, which the loader takes; none if the guest has no items, more than 65,536 items or more
+/// than 65,536 bytes of zeros.
 pub fn file_of(alloc: Global, guest: Guest) -> Result<Option<Vec<u8>>, AllocError>
     ensures { IfOk result (λ file. IfSome file (λ bytes. is_image bytes.items ≡ true)) }
 {

@@ -1,4 +1,4 @@
-//! The guests. Each starts at 0x10000; the page at 0x11000 is mapped where zeros follow.
+//! The guests. Each starts at 0x10000; the page at 0x11000 is mapped if zeros follow.
 
 use crate::file::Guest;
 use crate::line::Line::{
@@ -6,7 +6,7 @@ use crate::line::Line::{
 };
 use crate::line::Register::{A0, A1, A7, S0, S1, T0, T1, Zero};
 
-/// Puts out `hi` and a newline, and exits with 0.
+/// Outputs `hi` and a newline, and exits with 0.
 pub const HI: Guest = Guest {
     lines: &[
         Lui(A0, 0x10),
@@ -20,7 +20,7 @@ pub const HI: Guest = Guest {
     bss: 0,
 };
 
-/// Two threads add a word of the input each to a total under a mutex; the total is put out.
+/// Two threads add a word of the input each to a total under a mutex; the total is output.
 pub const PAIR: Guest = Guest {
     lines: &[
         Lui(A0, 0x10),
@@ -55,7 +55,7 @@ pub const PAIR: Guest = Guest {
     bss: 8044,
 };
 
-/// Two threads store a byte each, side by side; both bytes are put out.
+/// Two threads store a byte each, side by side; both bytes are output.
 pub const BYTES: Guest = Guest {
     lines: &[
         Lui(A0, 0x10),
@@ -114,7 +114,7 @@ pub const LENGTH: Guest = Guest {
     bss: 0,
 };
 
-/// Locks a mutex where the first byte of the input is not zero; then another thread tries to lock it. Exits with the
+/// Locks a mutex if the first byte of the input is not zero; then another thread tries to lock it. Exits with the
 /// answer.
 pub const TRY: Guest = Guest {
     lines: &[
@@ -173,7 +173,7 @@ pub const CROSS: Guest = Guest {
     bss: 0,
 };
 
-/// Unlocks a mutex that nobody owns, and exits with the answer.
+/// Unlocks a mutex that no thread owns, and exits with the answer.
 pub const PERM: Guest = Guest {
     lines: &[Addi(A0, Zero, 0), Call(8), Call(0)],
     bss: 0,
@@ -204,8 +204,8 @@ pub const SELF: Guest = Guest {
     bss: 0,
 };
 
-/// Puts of no bytes, of too many, past the last address, and over the edge of a page; then the lowest bytes of their
-/// answers. Its words were written by another assembler.
+/// Calls put for no bytes, for too many, past the last address, and over the edge of a page; then outputs the lowest
+/// bytes of the answers. Its words were written by another assembler.
 pub const PUTS: Guest = Guest {
     lines: &[Bytes(
         b"\xb7\x12\x01\x00\x13\x05\x00\x00\x93\x05\x00\x00\x93\x08\x10\x00\x73\x00\x00\x00\x23\x80\xa2\x00\x37\x05\x01\x00\xb7\x15\x00\x00\x93\x85\x15\x00\x93\x08\x10\x00\x73\x00\x00\x00\xa3\x80\xa2\x00\x13\x05\xf0\xff\x93\x05\x20\x00\x93\x08\x10\x00\x73\x00\x00\x00\x23\x81\xa2\x00\x37\x15\x00\xc0\x13\x05\xe5\xff\x93\x05\x40\x00\x93\x08\x10\x00\x73\x00\x00\x00\xa3\x81\xa2\x00\x37\x15\x01\x00\x93\x05\x40\x00\x93\x08\x10\x00\x73\x00\x00\x00\x13\x05\x00\x00\x93\x08\x00\x00\x73\x00\x00\x00",
@@ -213,7 +213,7 @@ pub const PUTS: Guest = Guest {
     bss: 8072,
 };
 
-/// Creates one thread more than there may be, and one at a pc that is no multiple of 4; then puts out the lowest bytes
+/// Creates one thread more than there may be, and one at a pc that is no multiple of 4; then outputs the lowest bytes
 /// of the answers. Its words were written by another assembler.
 pub const CREATES: Guest = Guest {
     lines: &[Bytes(
@@ -222,7 +222,7 @@ pub const CREATES: Guest = Guest {
     bss: 8088,
 };
 
-/// Squares 0x10001, and divides 0x80000000 by 10: unsigned for the quotient, signed for the remainder. Puts out the
+/// Squares 0x10001, and divides 0x80000000 by 10: unsigned for the quotient, signed for the remainder. Outputs the
 /// three words.
 pub const RESULTS: Guest = Guest {
     lines: &[

@@ -1,6 +1,6 @@
 //! Small guests whose runs follow from the rules by hand, in assembly, and their executables.
 //!
-//! `guests` has them, each with what it does. `file_of` is the executable that `rv_asm` writes of one.
+//! `guests` has them, each with what it does. `file_of` returns the executable that `rv_asm` writes for one.
 #![tactic(auto)]
 
 mod file;

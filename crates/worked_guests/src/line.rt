@@ -45,15 +45,15 @@ fn number(register: Register) -> u8
     }
 }
 
-/// A line of a guest. Its operands stand in the order in which assemblers take them
-/// (RISC-V unprivileged ISA 20191213, chapter 25).
+/// A line of a guest. Its operands are in the order in which assemblers take them (RISC-V unprivileged ISA 20191213,
+/// chapter 25).
 #[derive(Clone, Copy)]
 pub enum Line {
-    /// `lui rd, imm`: of the immediate the low 20 bits count.
+    /// `lui rd, imm`: only the low 20 bits of the immediate count.
     Lui(Register, u32),
     /// `addi rd, rs1, imm`.
     Addi(Register, Register, u8),
-    /// `slli rd, rs1, amount`: of the amount the low five bits count.
+    /// `slli rd, rs1, amount`: only the low five bits of the amount count.
     Slli(Register, Register, u8),
     /// `add rd, rs1, rs2`.
     Add(Register, Register, Register),
@@ -71,7 +71,7 @@ pub enum Line {
     Sw(Register, u8, Register),
     /// `sb rs2, imm(rs1)`.
     Sb(Register, u8, Register),
-    /// `beq rs1, rs2, imm`, by this number of instructions onwards.
+    /// `beq rs1, rs2, imm`: branches forwards by this number of instructions.
     Beq(Register, Register, u8),
     /// `ecall`.
     Ecall,
@@ -126,7 +126,7 @@ fn store(store: Store, rs2: Register, imm: u8, rs1: Register) -> Instr
     }
 }
 
-/// `beq rs1, rs2, imm`, by a number of instructions onwards.
+/// `beq rs1, rs2, imm`: branches forwards by a number of instructions.
 fn branch(rs1: Register, rs2: Register, count: u8) -> Instr
     ensures { InRange result }
 {
@@ -190,7 +190,7 @@ fn remainder(rd: Register, rs1: Register, rs2: Register) -> Instr
     operate(RegisterOperation::Remainder, rd, rs1, rs2)
 }
 
-/// Puts an instruction behind the items.
+/// Appends an instruction to the items.
 fn push_instruction(items: &mut Vec<Item>, instr: Instr) -> Result<(), AllocError>
     requires writable { All IsWritable items.old.items }
     requires in_range { InRange instr }
@@ -200,7 +200,7 @@ fn push_instruction(items: &mut Vec<Item>, instr: Instr) -> Result<(), AllocErro
     Ok(())
 }
 
-/// Puts a word behind the items.
+/// Appends a word to the items.
 fn push_word(items: &mut Vec<Item>, word: u32) -> Result<(), AllocError>
     requires { All IsWritable items.old.items }
     ensures { OnOk result (All IsWritable items.new.items) }
@@ -209,7 +209,7 @@ fn push_word(items: &mut Vec<Item>, word: u32) -> Result<(), AllocError>
     Ok(())
 }
 
-/// Puts bytes behind the items.
+/// Appends bytes to the items.
 fn push_bytes(items: &mut Vec<Item>, bytes: &[u8]) -> Result<(), AllocError>
     requires { All IsWritable items.old.items }
     ensures { OnOk result (All IsWritable items.new.items) }
@@ -220,7 +220,7 @@ fn push_bytes(items: &mut Vec<Item>, bytes: &[u8]) -> Result<(), AllocError>
     Ok(())
 }
 
-/// Puts what a line stands for behind the items.
+/// Appends the items of a line.
 pub(crate) fn push_line(items: &mut Vec<Item>, line: Line) -> Result<(), AllocError>
     requires { All IsWritable items.old.items }
     ensures { OnOk result (All IsWritable items.new.items) }

@@ -9,23 +9,23 @@ use std::sync::Wait;
 use std::test::Fail;
 use std::thread::Threads;
 
-/// The line by one worker, and by four.
+/// The command line with one worker, and with four.
 const LINES: [&str; 2] = [
     "ithreads run pair pages eight --memo m --workers 1",
     "ithreads run pair pages eight --memo m --workers 4",
 ];
 
-/// The file of the memo's name that is there before.
+/// The content of the memo's file before.
 const BEFORE: &[u8] = b"as before";
 
-/// A host with a file of the memo's name, of which one call fails; a failing print still puts out so many bytes.
+/// A host with a file of the memo's name, of which one call fails. A failing print still prints `part` bytes.
 fn host_failing(alloc: Global, call: u64, part: u64) -> Result<MemHost, AllocError> {
     let mut files = guest_files(alloc)?;
     put(alloc, &mut files, "m", Vec::from_slice(alloc, BEFORE)?)?;
     Ok(MemHost::new(alloc, files, Vec::from_slice(alloc, &[call])?, part))
 }
 
-/// A host at which a line was done, of which one call failed, and the status.
+/// Runs a command line with a host of which one call fails. Returns the host and the exit status.
 fn failed<R: Threads + Wait + Sync>(
     rt: &R,
     alloc: Global,
@@ -38,7 +38,7 @@ fn failed<R: Threads + Wait + Sync>(
     Ok((host, status))
 }
 
-/// What each read that fails is complained of.
+/// The complaint about each read that fails.
 const READS: [&[u8]; 3] = [b"read pair\n", b"read pages\n", b"read eight\n"];
 
 #[test]
@@ -56,7 +56,7 @@ fn a_failed_read_prints_nothing(rt: HostRuntime) -> Result<(), Fail> {
     Ok(())
 }
 
-/// How long the report of each round is that one worker makes, and all that is printed of both.
+/// All that is printed with one worker, and the lengths of the reports of both rounds in it.
 fn by_one_worker<R: Threads + Wait + Sync>(
     rt: &R,
     alloc: Global,
@@ -68,7 +68,7 @@ fn by_one_worker<R: Threads + Wait + Sync>(
     Ok((Vec::from_slice(alloc, host.printed())?, [first, second]))
 }
 
-/// Compares what is printed by one worker where a print fails: the texts before it, and so many bytes of its own.
+/// Compares what is printed with one worker if a print fails: the texts before it, and `part` bytes of its own.
 fn compare_print<R: Threads + Wait + Sync + Abort>(
     rt: &R,
     alloc: Global,
@@ -97,13 +97,13 @@ fn a_failed_print_leaves_a_part(rt: HostRuntime) -> Result<(), Fail> {
     Ok(())
 }
 
-/// How the report of each round begins, by however many workers.
+/// How the report of each round begins, with any number of workers.
 const BEGINS: [&[u8]; 2] = [
     b"round 0\nend exit 0\nsteps 12\nreused 0\nexecuted 12\ninstructions 51\nby ",
     b"round 1\nend exit 0\nsteps 12\nreused ",
 ];
 
-/// Whether so many first reports were printed whole, and of the next one so many bytes, at most one.
+/// Whether the first `whole` reports were printed whole, and `part` bytes of the next one, at most one.
 fn has_printed(host: &MemHost, whole: usize, part: usize) -> bool {
     let second = text_from(host.printed(), b"round 1\n");
     match whole {
@@ -141,7 +141,7 @@ fn a_failed_write_leaves_no_memo(rt: HostRuntime) -> Result<(), Fail> {
     Ok(())
 }
 
-/// Lines that print one text: the number of the call that prints it, and how the text begins.
+/// Command lines that print one text: the number of the call that prints it, and how the text begins.
 const TEXTS: [(&str, u64, &[u8]); 2] = [
     ("ithreads replay hi none order", 3, b"repla"),
     ("ithreads gen 7 --workers 1", 0, b"gen 7"),

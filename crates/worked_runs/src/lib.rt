@@ -1,6 +1,5 @@
-//! Worked runs: small guests whose runs follow from the rules by hand, where no line of the program shows it: under
-//! orders and schedules that are handed in, by workers whose steps are counted or held, and at hosts of which a call
-//! fails.
+//! Worked runs: small guests whose runs follow from the rules by hand, in cases that no command line shows: under given
+//! orders and schedules, by workers whose steps are counted or held, and with hosts of which a call fails.
 #![tactic(auto)]
 
 #[cfg(test)]

@@ -1,4 +1,4 @@
-//! Lines of the program, done at a host in memory.
+//! Command lines, run with a host in memory.
 
 use ith_host::{Gate, MemHost, OpenGate};
 use ith_top::top;
@@ -25,7 +25,7 @@ pub(super) fn two_pages(alloc: Global, second: u8) -> Result<Vec<u8>, AllocError
     Ok(input)
 }
 
-/// Puts a file under its name.
+/// Adds a file under its name.
 pub(super) fn put(
     alloc: Global,
     files: &mut BTreeMap<String, Vec<u8>>,
@@ -63,7 +63,7 @@ pub(super) fn host_with_guests(alloc: Global) -> Result<MemHost, AllocError> {
     Ok(MemHost::new(alloc, guest_files(alloc)?, Vec::new(alloc), 0))
 }
 
-/// The status of a line whose workers come to a gate.
+/// The exit status of a command line whose workers pass a gate.
 pub(super) fn status_at<R: Threads + Wait + Sync, G: Gate + Sync>(
     rt: &R,
     alloc: Global,
@@ -78,7 +78,7 @@ pub(super) fn status_at<R: Threads + Wait + Sync, G: Gate + Sync>(
     Ok(top(rt, alloc, &words, host, gate))
 }
 
-/// The status of a line.
+/// The exit status of a command line.
 pub(super) fn status_of<R: Threads + Wait + Sync>(
     rt: &R,
     alloc: Global,

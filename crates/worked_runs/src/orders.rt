@@ -1,5 +1,5 @@
-//! Old steps in another order: where two neighbours are exchanged of which neither must come before the other, all
-//! is reused all the same.
+//! Old steps in another order: if two neighbours are exchanged of which neither must come before the other, all steps
+//! are still reused.
 
 ghost use Rattle.std.specs.Prelude.{◌<◌, length};
 
@@ -65,7 +65,7 @@ const MEETING: Guest = Guest {
     bss: 0,
 };
 
-/// A schedule of it: entry 7 opens the barrier, and entry 12 wakes both, of whom one goes on to the mutex's queue.
+/// A schedule of it: entry 7 opens the barrier, and entry 12 wakes both, one of which moves on to the mutex's queue.
 const MET: [u8; 20] = [0, 0, 0, 1, 2, 1, 2, 0, 1, 1, 2, 2, 0, 1, 2, 1, 2, 0, 0, 0];
 
 /// The entries of it that the next one needn't follow: entry 2 makes the barrier, entries 3 and 4 yield, and entry 5
@@ -109,7 +109,7 @@ fn exchanged(alloc: Global, schedule: &[u8], place: usize) -> Result<Vec<Event>,
     Ok(events)
 }
 
-/// Whether a round reused each of its steps, and came to the same as another.
+/// Whether a round reused each of its steps, and came to the same end, output and memory as another.
 fn is_reused_whole(round: &Round, whole: &Round) -> bool {
     round.schedule().iter().all(|entry| entry.reused)
         && round.schedule().len() == whole.schedule().len()
@@ -126,7 +126,7 @@ struct Run<'a> {
     schedule: &'a [u8],
 }
 
-/// Whether all of a run is reused, where the step at a place and the next one are exchanged.
+/// Whether all of a run is reused if the step at a place and the next one are exchanged.
 fn can_exchange<R: Threads>(
     rt: &R,
     alloc: Global,

@@ -1,4 +1,4 @@
-//! An edit that reaches a step which writes a page, and itself wakes the page's reader.
+//! An edit that reaches a step that writes a page, and itself wakes the page's reader.
 
 use super::rounds::{driven, history_of, scheduled};
 use machine_spec::End;

@@ -1,5 +1,5 @@
-//! Replays from scratch that no line of the program asks for: of the generated guest, whose output is the sum of its
-//! input's bytes, and of a thread that no schedule can name.
+//! Replays from scratch that no command line requests: of the generated guest, whose output is the sum of its input's
+//! bytes, and of a thread that no schedule can name.
 
 ghost use Rattle.std.specs.Prelude.{◌≡◌, ◌<◌};
 
@@ -14,7 +14,7 @@ use std::test::Fail;
 use std::thread::Threads;
 use worked_guests::guests::CROSS;
 
-/// What a setup comes to under a schedule.
+/// The outcome of a setup under a schedule.
 fn outcome_of<R: Threads>(
     rt: &R,
     alloc: Global,
@@ -52,7 +52,7 @@ fn one_after_the_other(alloc: Global) -> Result<Vec<u8>, AllocError> {
     Ok(schedule)
 }
 
-/// The schedule in which all eight threads ask for the mutex before the first of them unlocks it, block for block, and
+/// The schedule in which all eight threads request the mutex before the first of them unlocks it, block for block, and
 /// are joined after their ends.
 fn side_by_side(alloc: Global) -> Result<Vec<u8>, AllocError> {
     let mut schedule = Vec::new(alloc);
@@ -68,7 +68,7 @@ fn side_by_side(alloc: Global) -> Result<Vec<u8>, AllocError> {
     Ok(schedule)
 }
 
-/// The setup of what is generated from a number, or none where it isn't taken.
+/// The setup that is generated from a number, or none if it is refused.
 fn generated(alloc: Global, number: u32) -> Result<Option<Setup>, AllocError> {
     let Generated { elf, input, .. } = make(alloc, number)?;
     inputs_have_one_length();
@@ -85,7 +85,7 @@ fn sum_of(bytes: &[u8]) -> u32 {
         .fold(0, |sum: u32, byte| sum.wrapping_add(u32::from(*byte)))
 }
 
-/// Whether the guest of a number makes its 154 steps under a schedule, and puts out the sum of its input's bytes.
+/// Whether the guest of a number makes its 154 steps under a schedule, and outputs the sum of its input's bytes.
 fn puts_out_the_sum<R: Threads>(
     rt: &R,
     alloc: Global,

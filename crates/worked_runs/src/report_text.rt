@@ -1,8 +1,8 @@
-//! What a report tells, taken from its text.
+//! Parts of a report, taken from its text.
 
 use std::alloc::{AllocError, Global};
 
-/// What stands after these first bytes of a line, up to its end, in the first line that has them.
+/// The rest of the first line that begins with these bytes.
 pub(super) fn line_after<'t>(text: &'t [u8], begins: &[u8]) -> &'t [u8] {
     for line in text.split(|byte| *byte == b'\n') {
         if let Some(rest) = line.strip_prefix(begins) {
@@ -12,7 +12,7 @@ pub(super) fn line_after<'t>(text: &'t [u8], begins: &[u8]) -> &'t [u8] {
     &[]
 }
 
-/// What stands from these bytes on, where they first come.
+/// The text from the first occurrence of these bytes on.
 pub(super) fn text_from<'t>(text: &'t [u8], begins: &[u8]) -> &'t [u8] {
     let mut rest = text;
     for _ in 0..text.len() {
@@ -24,7 +24,7 @@ pub(super) fn text_from<'t>(text: &'t [u8], begins: &[u8]) -> &'t [u8] {
     &[]
 }
 
-/// How many steps each worker made, as a report tells.
+/// How many steps each worker made, by a report.
 pub(super) fn worker_steps(alloc: Global, report: &[u8]) -> Result<Vec<u64>, AllocError> {
     let mut worker_steps = Vec::new(alloc);
     for word in str::from_utf8(line_after(report, b"by "))
@@ -36,7 +36,7 @@ pub(super) fn worker_steps(alloc: Global, report: &[u8]) -> Result<Vec<u64>, All
     Ok(worker_steps)
 }
 
-/// The threads of the schedule that a report tells, entry by entry.
+/// The threads of the schedule in a report, entry by entry.
 pub(super) fn schedule(alloc: Global, report: &[u8]) -> Result<Vec<u8>, AllocError> {
     let mut threads = Vec::new(alloc);
     let line = str::from_utf8(line_after(report, b"schedule ")).unwrap_or("");

@@ -1,4 +1,4 @@
-//! Rounds of small guests that given events make, and what they leave.
+//! Rounds of small guests after given events, and their histories.
 
 ghost use Rattle.std.specs.Prelude.{◌≡◌, ◌<◌};
 
@@ -15,7 +15,7 @@ use std::thread::Threads;
 use thunk_record::Compared;
 use worked_guests::{Guest, file_of};
 
-/// The setup of a guest and an input, or none where it is too long or isn't taken.
+/// The setup of a guest and an input, or none if either is too long or it is refused.
 pub(super) fn setup_of(
     alloc: Global,
     guest: Guest,
@@ -33,7 +33,7 @@ pub(super) fn setup_of(
     }
 }
 
-/// The round of a guest that these events make, by a history if there is one.
+/// The round of a guest after these events, based on a history if there is one.
 pub(super) fn driven<R: Threads>(
     rt: &R,
     alloc: Global,
@@ -65,7 +65,7 @@ fn executes(alloc: Global, schedule: &[u8]) -> Result<Vec<Event>, AllocError> {
     Ok(events)
 }
 
-/// The round of a guest without a history, by a schedule.
+/// The round of a guest without a history, under a schedule.
 pub(super) fn scheduled<R: Threads>(
     rt: &R,
     alloc: Global,
@@ -77,7 +77,7 @@ pub(super) fn scheduled<R: Threads>(
     driven(rt, alloc, guest, input, None, &events)
 }
 
-/// The history that a round leaves.
+/// The history that is made of a round.
 pub(super) fn history_of(alloc: Global, round: Round) -> Result<Arc<History>, Fail> {
     match round.into_history() {
         Some(history) => Ok(Arc::new(alloc, history)?),

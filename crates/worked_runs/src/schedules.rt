@@ -1,4 +1,4 @@
-//! Small guests under orders that are handed in: how far each is permitted, and that both of two bytes stand.
+//! Small guests under given orders: how far each is permitted, and that both of two bytes are kept.
 
 use super::rounds::{driven, scheduled};
 use machine_spec::End;
@@ -9,7 +9,7 @@ use std::test::Fail;
 use worked_guests::guests::{BYTES, CROSS};
 
 /// A schedule of the guest whose two threads take two mutexes in opposite order, how many of its steps are permitted,
-/// what they execute, and the end, if that is one.
+/// how many instructions they execute, and the end, if there is one.
 type Row = (&'static [u8], usize, u64, Option<End>);
 
 const CROSSED: [Row; 5] = [
@@ -51,8 +51,8 @@ fn byte_at(memory: &PageTable, slot: usize, offset: usize) -> Option<u8> {
     }
 }
 
-/// Two threads store a byte each into one page; the second is executed on a view that was given
-/// before the first one's byte was committed, and both bytes stand.
+/// Two threads store a byte each into one page; the second is executed on a view that was given before the first one's
+/// byte was committed, and both bytes are kept.
 const INTERLEAVED: [Event; 16] = [
     Event::Take(0),
     Event::Commit(0),
@@ -72,7 +72,7 @@ const INTERLEAVED: [Event; 16] = [
     Event::Commit(0),
 ];
 
-/// Whether both bytes stand in the output and in memory.
+/// Whether both bytes are in the output and in memory.
 fn has_both_bytes(round: &Round) -> bool {
     round.output() == b"\x11\x12".as_slice()
         && byte_at(round.memory(), 1, 0) == Some(0x11)

@@ -1,4 +1,4 @@
-//! Words of which not even the first, the program's name, is there: no shell starts a program so.
+//! Arguments without even the first, the program's name: no shell starts a program so.
 
 use ith_words::{LineFault, line_of};
 use std::test::Fail;

@@ -1,5 +1,4 @@
-//! Worked runs by several workers, whose steps come to a gate: two that execute at once, and a round that executes
-//! nothing.
+//! Worked runs by several workers, which pass a gate: two that execute at once, and a round that executes nothing.
 
 use super::lines::{host_with_guests, status_at, status_of};
 use super::report_text::{line_after, schedule, text_from, worker_steps};
@@ -9,19 +8,20 @@ use std::sync::atomic::{AtomicU64, Ordering};
 use std::test::Fail;
 use std::thread::yield_now;
 
-/// A gate that notes who comes to it. It holds thunk 1 of thread 0 until thunk 0 of thread 1 came, and the reverse.
+/// A gate that notes which thunks come to it. It holds thunk 1 of thread 0 until thunk 0 of thread 1 comes, and the
+/// reverse.
 #[derive(Drop)]
 struct Meeting {
     /// The thunks that came, a bit for each.
     came: AtomicU64,
-    /// How often a thunk was held, and the other didn't come.
+    /// How often a thunk was held and the other one didn't come.
     given_up: AtomicU64,
 }
 
-/// How many turns a thunk is held at most.
+/// How often the thread of a held thunk yields at most.
 const MOST_TURNS: u64 = 16_777_216;
 
-/// The bit of a thunk, where both numbers are small.
+/// The bit of a thunk, or 0 if its numbers are too large.
 fn bit_of(thread: u8, number: u32) -> u64 {
     let place = u32::from(thread).saturating_mul(8).saturating_add(number);
     if number < 8 {
@@ -32,7 +32,7 @@ fn bit_of(thread: u8, number: u32) -> u64 {
 }
 
 impl Meeting {
-    /// Holds a thunk until another came.
+    /// Holds a thunk until another one comes, for at most `MOST_TURNS` yields.
     fn hold(&self, other: u64) {
         for _ in 0..MOST_TURNS {
             if self.came.load(Ordering::SeqCst) & other != 0 {
@@ -67,7 +67,7 @@ fn total(worker_steps: &[u64]) -> u64 {
     sum
 }
 
-/// Whether a report of two workers tells twelve steps, of which each of them made one at least.
+/// Whether a report has twelve steps and two workers, each of which made at least one.
 fn is_shared(alloc: Global, report: &[u8]) -> Result<bool, AllocError> {
     let told = worker_steps(alloc, report)?;
     Ok(told.len() == 2 && !told.contains(&0) && total(&told) == 12)
@@ -91,7 +91,7 @@ fn two_workers_execute_at_once(rt: HostRuntime) -> Result<(), Fail> {
     Ok(())
 }
 
-/// A gate that counts who comes to it.
+/// A gate that counts the thunks that come to it.
 #[derive(Drop)]
 struct Counting {
     count: AtomicU64,

@@ -15,7 +15,7 @@ use page_store::PageMap;
 use release_core::{History, Setup};
 use std::alloc::AllocError;
 
-/// Appends bytes behind their number.
+/// Appends the number of some bytes, and then the bytes.
 fn write_sized(out: &mut Vec<u8>, bytes: &[u8]) -> Result<(), AllocError>
     requires { length bytes.now < 2 ^ 32 }
     ensures { OnOk result (out.new.items ≡ out.old.items ++ word (length bytes.now) ++ bytes.now) }
@@ -42,7 +42,7 @@ fn write_setup(out: &mut Vec<u8>, setup: &Setup) -> Result<(), AllocError>
     put_word(out, setup.steps())
 }
 
-/// Appends the pages of a pool behind their number.
+/// Appends the number of a pool's pages, and then the pages.
 fn write_pool(out: &mut Vec<u8>, pages: &[&[u8]]) -> Result<(), AllocError>
     requires { length pages.now < 2 ^ 32 }
     ensures { OnOk result (out.new.items
@@ -55,7 +55,7 @@ fn write_pool(out: &mut Vec<u8>, pages: &[&[u8]]) -> Result<(), AllocError>
     Ok(())
 }
 
-/// Appends the records of a history, whose pool is this.
+/// Appends the records of a history with this pool.
 fn write_records(
     out: &mut Vec<u8>,
     slots: &PageMap,

@@ -1,4 +1,4 @@
-//! The pool of a memo: the different read pages of a history, and where each read page stands among them.
+//! The pool of a memo: the different read pages of a history, and the place of each read page among them.
 
 ghost use Rattle.std.specs.Prelude.{◌≡◌, ◌<◌, ◌≤◌, ◌+◌, ◌*◌, ◌^◌, ◌++◌, [], true, false, map, length, slice_index_or, IfOk, OnOk};
 ghost use Rattle.std.specs.List.{fold};
@@ -10,14 +10,14 @@ use release_core::History;
 use std::alloc::{AllocError, AllocFailed, Global};
 use std::collections::BTreeMap;
 
-/// The different pages that were met so far, in the order in which they came, and how each is found again.
+/// The different pages so far, in the order in which they came, and how each is found again.
 #[derive(Drop)]
 struct Known<'a> {
     /// The pages.
     pool: Vec<&'a [u8]>,
     /// The place of each page among them.
     indices: BTreeMap<&'a [u8], u32>,
-    /// For each slot the place of the page that was met there last, or any number: most read pages are the same as
+    /// For each slot the place of the page that was last found there, or any number: most read pages are the same as
     /// before, and one comparison is enough for these.
     hints: Vec<u32>,
 }
@@ -39,14 +39,14 @@ fn hint_at(hints: &[u32], slot: usize) -> u32 {
     }
 }
 
-/// Notes the place of the page that was met last in a slot.
+/// Notes the place of the page that was last found in a slot.
 fn note_hint(hints: &mut [u32], slot: usize, place: u32) {
     if slot < hints.len() {
         hints[slot] = place;
     }
 }
 
-/// Whether a page stands at a place of a pool.
+/// Whether a page is at a place of a pool.
 fn stands_at(pool: &[&[u8]], place: u32, page: &[u8]) -> bool
     ensures { result ≡ true → StandsAt (pages_lent pool.now) place page.now }
 {
@@ -56,7 +56,7 @@ fn stands_at(pool: &[&[u8]], place: u32, page: &[u8]) -> bool
     }
 }
 
-/// Puts a page that isn't known yet behind the others, and gives its place.
+/// Appends a page that isn't known yet, and returns its place.
 fn push_page<'a>(known: &mut Known<'a>, page: &'a [u8]) -> Result<u32, AllocError>
     requires indexed { IsIndexed known.old.indices (pages_lent known.old.pool.items) }
     requires few { length known.old.pool.items < 2 ^ 32 }
@@ -73,7 +73,7 @@ fn push_page<'a>(known: &mut Known<'a>, page: &'a [u8]) -> Result<u32, AllocErro
     Ok(place)
 }
 
-/// Adds a page to those that are known, and gives its place among them.
+/// Adds a page to those that are known, and returns its place among them.
 fn add_page<'a>(known: &mut Known<'a>, page: &'a [u8]) -> Result<u32, AllocError>
     requires indexed { IsIndexed known.old.indices (pages_lent known.old.pool.items) }
     requires few { length known.old.pool.items < 2 ^ 32 }
@@ -89,7 +89,7 @@ fn add_page<'a>(known: &mut Known<'a>, page: &'a [u8]) -> Result<u32, AllocError
     }
 }
 
-/// Adds a read page to those that are known, and gives the place of its bytes among them.
+/// Adds a read page to those that are known, and returns the place of its bytes among them.
 fn add_read<'a>(known: &mut Known<'a>, read: &'a ReadPage) -> Result<u32, AllocError>
     requires indexed { IsIndexed known.old.indices (pages_lent known.old.pool.items) }
     requires few { length known.old.pool.items < 2 ^ 32 }
@@ -133,7 +133,7 @@ fn add_reads<'a>(
     Ok(())
 }
 
-/// The pool of a history, in whose page map there are this many slots.
+/// The pool of a history whose page map has this many slots.
 pub fn pool_of_history<'a>(
     alloc: Global,
     history: &'a History,

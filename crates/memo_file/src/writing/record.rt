@@ -54,7 +54,7 @@ fn write_head(out: &mut Vec<u8>, rec: &Record) -> Result<(), AllocError>
     write_registers(out, rec.finish())
 }
 
-/// Appends read pages, whose places in the pool stand from a start on.
+/// Appends read pages, whose places in the pool are those of `pool` from `start` on.
 fn write_reads(
     out: &mut Vec<u8>,
     slots: &PageMap,
@@ -88,7 +88,7 @@ fn write_delta(out: &mut Vec<u8>, slots: &PageMap, delta: &[PageDelta]) -> Resul
     Ok(())
 }
 
-/// Appends a record. The places of its read pages in the pool stand from a start on.
+/// Appends a record. The places of its read pages in the pool are those of `pool` from `start` on.
 pub fn write_record(
     out: &mut Vec<u8>,
     slots: &PageMap,

@@ -18,7 +18,7 @@ fn write_mask(out: &mut Vec<u8>, mask: &Mask) -> Result<(), AllocError>
     Ok(())
 }
 
-/// Appends the bytes of a page at the marked places of a word. A word of marks alone is as common as one of few.
+/// Appends the bytes of a page at the marked places of a word. A word with all marks is as common as one with few.
 fn write_word(out: &mut Vec<u8>, mask: &Mask, page: &[u8], number: usize) -> Result<(), AllocError>
     requires whole { length page.now ≡ PAGE_SIZE }
     requires within { number < 64 }

@@ -12,7 +12,8 @@ use release_core::{Core, History, Records};
 use std::alloc::{AllocError, Global};
 use std::thread::Threads;
 
-/// The first false one of some records, which are applied from a machine on, and how many turns their thunks make.
+/// The verdict of some records, which are applied from a machine on: the first false one, and how many turns their
+/// thunks make.
 fn verdict_from<R: Threads + Sync>(
     rt: &R,
     alloc: Global,
@@ -38,14 +39,14 @@ fn verdict_from<R: Threads + Sync>(
     Ok(found.closed(place as u32, core.ended().is_none()))
 }
 
-/// Whether a history is honest: its records are applied one after the other, the thunk of each is executed again on
-/// what it was applied to, by so many workers side by side, and what it makes is compared with the record. The verdict
-/// depends on the history alone, and not on the number of workers or on what they do first. The memory that it takes is
-/// that of a run of the history, and of the views of 4,096 steps.
+/// Whether a history is honest. Its records are applied one after the other; `workers` workers execute the thunk of
+/// each again, side by side, on what the record was applied to, and compare the result with the record. The verdict
+/// depends on the history alone, and not on the number of workers or on what they do first. It takes the memory of a
+/// run of the history, and of the views of 4,096 steps.
 ///
 /// # Errors
 ///
-/// An error where the host's memory ran out.
+/// An error if the host's memory ran out.
 pub fn audit<R: Threads + Sync>(
     rt: &R,
     alloc: Global,

@@ -13,20 +13,20 @@ use std::sync::Arc;
 use thunk_record::Record;
 use thunk_run::Job;
 
-/// The most claims at once: enough for each worker to have work for longer than it takes to start it, and few enough
-/// for their views.
+/// The most claims at once: enough for each worker to have work for longer than it takes to start it, and few enough to
+/// hold their views.
 const MOST_CLAIMS: usize = 4_096;
 
-/// What a record claims: that this job makes it.
+/// The claim of a record: that this job makes it.
 #[derive(Drop)]
 pub struct Claim {
-    /// The next thunk of the record's thread, where the record was applied.
+    /// The next thunk of the record's thread, at the machine to which the record was applied.
     pub job: Job,
     /// The record.
     pub rec: Arc<Record>,
 }
 
-/// The claim of a record that can be applied, and is.
+/// Applies a record that can be applied, and returns its claim.
 #[tactic(auto, using(crate::proofs::Following::apply_ready, crate::proofs::Following::apply_can))]
 fn claim_of(core: &mut Core, rec: &Arc<Record>) -> Result<Claim, AllocError>
     requires { can_apply core.old (arc_value rec.now) ≡ true }
@@ -39,12 +39,12 @@ fn claim_of(core: &mut Core, rec: &Arc<Record>) -> Result<Claim, AllocError>
     Ok(Claim { job, rec })
 }
 
-/// The claims of the records from a place on that can be applied, and are; no more than `MOST_CLAIMS`. There is none
-/// only where the record there can't be applied.
+/// Applies the records from a place on, as far as they can be applied, and returns their claims, at most `MOST_CLAIMS`.
+/// There is none only if there is no record at the place, or it can't be applied.
 ///
 /// # Errors
 ///
-/// An error where the host's memory ran out.
+/// An error if the host's memory ran out.
 pub(super) fn claims_from(
     alloc: Global,
     core: &mut Core,

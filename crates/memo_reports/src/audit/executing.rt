@@ -13,7 +13,7 @@ use std::alloc::{AllocError, Global};
 use std::thread::{Threads, join};
 use thunk_run::execute;
 
-/// What is found where the thunk of a claim is executed.
+/// Executes the thunk of a claim, and returns the verdict.
 fn audit_one<R: Threads>(rt: &R, alloc: Global, claim: &Claim) -> Result<Verdict, AllocError>
     ensures { IfOk result (IsFoundIn (claim.now ∷ [])) }
 {
@@ -29,7 +29,7 @@ fn audit_one<R: Threads>(rt: &R, alloc: Global, claim: &Claim) -> Result<Verdict
     })
 }
 
-/// What is found where the thunks of claims are executed one after the other.
+/// Executes the thunks of claims one after the other, and returns the verdict.
 fn audit_in_turn<R: Threads>(rt: &R, alloc: Global, claims: &[Claim]) -> Result<Verdict, AllocError>
     requires { length claims.now ≤ MOST_STEPS }
     ensures { IfOk result (IsFoundIn claims.now) }
@@ -42,7 +42,7 @@ fn audit_in_turn<R: Threads>(rt: &R, alloc: Global, claims: &[Claim]) -> Result<
     Ok(found)
 }
 
-/// How many turns some claims say that they take, or the most that can be counted.
+/// How many turns some claims state, or the most that can be counted.
 fn turns_claimed(claims: &[Claim]) -> u64 {
     let mut turns = 0u64;
     for claim in claims {
@@ -51,8 +51,8 @@ fn turns_claimed(claims: &[Claim]) -> u64 {
     turns
 }
 
-/// Where claims are cut in two, so that the first ones say that they take as large a part of all turns as `few` workers
-/// are of `all`. What is said may be false: then some worker has more to do.
+/// The place at which claims are cut in two, so that the first ones state as large a part of all turns as `few` workers
+/// are of `all`. What they state may be false: then some worker has more to do.
 fn cut_of(claims: &[Claim], few: u32, all: u32) -> usize
     requires some { 2 ≤ length claims.now }
     requires workers { 1 ≤ all }
@@ -70,7 +70,7 @@ fn cut_of(claims: &[Claim], few: u32, all: u32) -> usize
     claims.len() - 1
 }
 
-/// What was found in claims that were cut in two.
+/// The verdict of claims that were cut in two.
 fn found_in_both(claims: &[Claim], cut: usize, first: Verdict, second: Verdict) -> Verdict
     requires few { length claims.now ≤ MOST_STEPS }
     requires cut { cut ≤ length claims.now }
@@ -81,12 +81,12 @@ fn found_in_both(claims: &[Claim], cut: usize, first: Verdict, second: Verdict) 
     first.and(cut as u32, second)
 }
 
-/// What is found where the thunks of claims are executed by so many workers, each of which has some that follow one
-/// another. Where a worker can't be started its part is done by who would start it.
+/// Executes the thunks of claims by `workers` workers, each of which has some that follow one another, and returns the
+/// verdict. If a worker can't be started, the one that would start it does its part.
 ///
 /// # Errors
 ///
-/// An error where the host's memory ran out.
+/// An error if the host's memory ran out.
 pub(super) fn audit_together<R: Threads + Sync>(
     rt: &R,
     alloc: Global,

@@ -97,7 +97,7 @@ fn has_same_start(a: &Record, b: &Record) -> bool
 }
 
 /// Whether two records are the same: the thread, its number of steps, the first registers, the read pages, the stored
-/// bytes, the last registers, the end, and the count of turns. Takes no memory.
+/// bytes, the last registers, the end, and the count of turns. Allocates no memory.
 pub(super) fn is_same(a: &Record, b: &Record) -> bool
     ensures { Decides result (a.now ≡ b.now) }
 {

@@ -8,7 +8,7 @@ use super::verdict::Verdict;
 use ith_text::decimal;
 use std::alloc::{AllocError, Global};
 
-/// Appends a line: a name, a space, and a number in decimal. Where memory is wanting, a part of it may stand there.
+/// Appends a line: a name, a space, and a number in decimal. If memory runs out, a part of it may have been appended.
 fn number_line(alloc: Global, name: &str, number: u64, into: &mut Vec<u8>) -> Result<(), AllocError>
     ensures { OnOk result (into.new.items ≡ into.old.items ++ line name.now (decimal number)) }
 {
@@ -19,12 +19,12 @@ fn number_line(alloc: Global, name: &str, number: u64, into: &mut Vec<u8>) -> Re
     Ok(())
 }
 
-/// The lines of the audit of so many records: how many they are, how many instructions were executed, and `honest`, or
-/// `false` with the place of the first false record.
+/// The lines of an audit: how many records were audited, how many instructions were executed, and `honest`, or `false`
+/// with the place of the first false record.
 ///
 /// # Errors
 ///
-/// An error where the host's memory ran out.
+/// An error if the host's memory ran out.
 pub fn text(alloc: Global, entries: u64, verdict: Verdict) -> Result<Vec<u8>, AllocError>
     ensures { IfOk result (λ text. text.items
         ≡ audit_text entries verdict.instructions verdict.first) }

@@ -1,20 +1,20 @@
-//! What an audit finds.
+//! The result of an audit.
 
 ghost use Rattle.std.specs.Prelude.{◌≡◌, ◌<◌, ◌+◌, ◌^◌, if◌then◌else◌, IfSome, None, Some};
 ghost use Rattle.memo_reports.specs.Claims.{first_of_both};
 
-/// What an audit finds.
+/// The result of an audit.
 #[derive(Clone, Copy)]
 pub struct Verdict {
     /// How many instructions were executed: the turns of all thunks.
     pub instructions: u64,
-    /// The place of the first record that isn't as the machine makes it, or the place behind the last record where all
-    /// are and no end comes after them. None where the history is honest.
+    /// The place of the first record that isn't as the machine makes it, or the place after the last record if all are
+    /// and no end comes after them. None if the history is honest.
     pub first: Option<u32>,
 }
 
 impl Verdict {
-    /// That of no record.
+    /// The verdict of no record.
     pub(super) fn of_none() -> Verdict
         ensures instructions { result.instructions ≡ 0 }
         ensures first { result.first ≡ None }
@@ -25,7 +25,7 @@ impl Verdict {
         }
     }
 
-    /// That of so many records, of which this is the verdict, and of others behind them.
+    /// The verdict of `count` records, of which this is the verdict, and of others after them.
     pub(super) fn and(self, count: u32, others: Verdict) -> Verdict
         requires instructions { self.instructions + others.instructions < 2 ^ 64 }
         requires places { IfSome others.first (λ place. count + place < 2 ^ 32) }
@@ -43,8 +43,8 @@ impl Verdict {
         }
     }
 
-    /// That of all records, where so many were looked at, and what stands behind them is false or not: a record, or
-    /// that no end comes.
+    /// The verdict of all records, of which the first `count` were examined. `is_false` is whether what follows them is
+    /// false: a record, or that no end comes.
     pub(super) fn closed(self, count: u32, is_false: bool) -> Verdict
         ensures instructions { result.instructions ≡ self.instructions }
         ensures first { result.first

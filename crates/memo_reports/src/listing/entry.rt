@@ -17,7 +17,7 @@ use thunk_spec::ThunkEnd;
 /// The register that has the number of a call, a7 (RISC-V ELF psABI, Integer Register Convention).
 const A7: u8 = 17;
 
-/// Appends the line of the record at a place. Where memory is wanting, a part of the line may stand there.
+/// Appends the line of the record at a place. If memory runs out, a part of the line may have been appended.
 pub(super) fn entry_line(
     alloc: Global,
     addresses: &[u32],

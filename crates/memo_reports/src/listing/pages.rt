@@ -33,7 +33,7 @@ fn append_address(
     hex8(alloc, addresses[slot], into)
 }
 
-/// Appends the addresses of read pages, or a dash where there is none.
+/// Appends the addresses of read pages, or a dash if there is none.
 pub(super) fn append_reads(
     alloc: Global,
     addresses: &[u32],
@@ -56,7 +56,7 @@ pub(super) fn append_reads(
     Ok(())
 }
 
-/// Appends the addresses of pages that were stored to, or a dash where there is none.
+/// Appends the addresses of pages that were stored to, or a dash if there is none.
 pub(super) fn append_writes(
     alloc: Global,
     addresses: &[u32],

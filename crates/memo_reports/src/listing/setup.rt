@@ -8,8 +8,7 @@ use ith_text::decimal;
 use release_core::Setup;
 use std::alloc::{AllocError, Global};
 
-/// Appends a line: a name, a space, and a number in decimal. Where memory is wanting, a part of it
-/// may stand there.
+/// Appends a line: a name, a space, and a number in decimal. If memory runs out, a part of it may have been appended.
 fn number_line(alloc: Global, name: &str, number: u64, into: &mut Vec<u8>) -> Result<(), AllocError>
     ensures { OnOk result (into.new.items ≡ into.old.items ++ line name.now (decimal number)) }
 {

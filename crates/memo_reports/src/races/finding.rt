@@ -11,7 +11,7 @@ use super::steps::steps_of;
 use release_core::History;
 use std::alloc::{AllocError, Global};
 
-/// No access to any of so many pages.
+/// No access to any of `pages` pages.
 fn none_past(alloc: Global, pages: usize) -> Result<Vec<PagePast>, AllocError>
     ensures count { IfOk result (λ past. length past.items ≡ pages) }
     ensures none { IfOk result (λ past. All (λ (p : Past). p.threads.items ≡ []) past.items) }
@@ -29,7 +29,7 @@ fn none_past(alloc: Global, pages: usize) -> Result<Vec<PagePast>, AllocError>
 ///
 /// # Errors
 ///
-/// An error where the host's memory ran out.
+/// An error if the host's memory ran out.
 pub fn races(alloc: Global, history: &History, most: usize) -> Result<Races, AllocError>
     ensures total { IfOk result (λ races. races.total ≡ length (races_of history.now)) }
     ensures first { IfOk result (λ races. races.first ≡ take most (races_of history.now)) }

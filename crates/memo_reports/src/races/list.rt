@@ -21,7 +21,7 @@ impl Model for RaceList {
 }
 
 impl RaceList {
-    /// These races. Takes no memory.
+    /// These races. Allocates no memory.
     pub fn new(races: Vec<Race>) -> RaceList
         ensures { result ≡ races.items }
     {

@@ -54,7 +54,7 @@ pub struct ThreadPast {
     writing: Vec<Access>,
 }
 
-/// The place of the first access that is no earlier than a number of its thread's steps. Mostly all are, or none.
+/// The place of the first access whose step's number isn't below this one. Mostly that holds for all, or for none.
 fn first_from(accesses: &[Access], number: u32) -> usize
     requires { IsNonDecreasingBy (λ (a : Access). a.number) accesses.now }
     ensures within { result ≤ length accesses.now }
@@ -72,7 +72,7 @@ fn first_from(accesses: &[Access], number: u32) -> usize
 }
 
 impl ThreadPast {
-    /// No access of a thread so far. Takes no memory.
+    /// No access of a thread so far. Allocates no memory.
     fn new(alloc: Global, thread: u8) -> ThreadPast
         requires { thread < THREADS }
         ensures past { IsThreadPast result }
@@ -86,8 +86,8 @@ impl ThreadPast {
         }
     }
 
-    /// The accesses that race with one of a later step, by whether that one writes. What the later step's thunk has
-    /// seen of the thread are its first steps, so these are the last ones.
+    /// The accesses that race with one of a later step, by whether the later one writes. The later step's thunk has
+    /// seen the first steps of the thread, so these are the last accesses.
     pub fn racing(&self, step: &Step, writes: bool) -> &[Access]
         requires { IsThreadPast self.now }
         ensures { result.now ≡ filter (races_with step.now writes) self.now.all.items }
@@ -101,7 +101,7 @@ impl ThreadPast {
         &accesses[first..]
     }
 
-    /// One access more.
+    /// Adds an access.
     fn add(&mut self, access: Access) -> Result<(), AllocError>
         requires thread { access.thread ≡ self.old.thread }
         requires past { IsThreadPast self.old }
@@ -126,7 +126,7 @@ pub struct PagePast {
 }
 
 impl PagePast {
-    /// No access so far. Takes no memory.
+    /// No access so far. Allocates no memory.
     pub fn new(alloc: Global) -> PagePast
         ensures { result.threads.items ≡ [] }
     {
@@ -135,7 +135,7 @@ impl PagePast {
         }
     }
 
-    /// Where the accesses of a thread stand, if it has any.
+    /// The place of a thread's accesses, if it has any.
     fn place(&self, thread: u8) -> Option<usize>
         ensures within { IfSome result (λ place. place < length self.now.threads.items) }
         ensures thread { IfSome result
@@ -144,7 +144,7 @@ impl PagePast {
         self.threads.iter().position(|past| past.thread == thread)
     }
 
-    /// One access more, after all of its thread.
+    /// Adds an access, after all of its thread.
     pub fn add(&mut self, alloc: Global, access: Access) -> Result<(), AllocError>
         requires known { access.thread < THREADS }
         requires past { IsPagePast self.old }

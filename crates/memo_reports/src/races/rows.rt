@@ -31,7 +31,7 @@ impl Model for Row {
 }
 
 impl Row {
-    /// No race so far. Takes no memory.
+    /// No race so far. Allocates no memory.
     fn new(alloc: Global) -> Row
         ensures { result ≡ [] }
     {
@@ -47,7 +47,7 @@ impl Row {
         &self.races
     }
 
-    /// One race more.
+    /// Adds a race.
     fn push(&mut self, race: Race) -> Result<(), AllocError>
         ensures { OnOk result (self.new ≡ self.old ++ race ∷ []) }
     {
@@ -56,7 +56,7 @@ impl Row {
     }
 }
 
-/// The race of an access with a later step, for a page that this one touches.
+/// The race of an access with a later step, for a page that the later one touches.
 fn race_with(access: Access, later: usize, touch: Touch) -> Race
     ensures { result ≡ race_of later touch access }
 {
@@ -73,7 +73,7 @@ fn race_with(access: Access, later: usize, touch: Touch) -> Race
 /// enough.
 #[derive(Drop)]
 pub struct FirstRaces {
-    /// How many races are wanted at most.
+    /// How many races are listed at most.
     most: usize,
     /// How many races the rows have.
     many: usize,
@@ -82,7 +82,7 @@ pub struct FirstRaces {
 }
 
 impl FirstRaces {
-    /// No step so far. Takes no memory.
+    /// No step so far. Allocates no memory.
     pub fn new(alloc: Global, most: usize) -> FirstRaces
         ensures rows { result.rows.items ≡ [] }
         ensures many { result.many ≡ 0 }
@@ -95,7 +95,7 @@ impl FirstRaces {
         }
     }
 
-    /// One race more, of a step that has a row.
+    /// Adds a race of a step that has a row.
     fn add_race(&mut self, race: Race) -> Result<(), AllocError>
         requires row { race.earlier < length self.old.rows.items }
         requires room { self.old.many + 1 < 2 ^ 64 }
@@ -110,8 +110,8 @@ impl FirstRaces {
         Ok(())
     }
 
-    /// The races of accesses in order with a later step, for a page that this one touches. Accesses of steps without a
-    /// row are left out.
+    /// Adds the races of accesses in order with a later step, for a page that the later one touches. Skips the accesses
+    /// of steps without a row.
     fn add_with(
         &mut self,
         accesses: &[Access],
@@ -139,8 +139,8 @@ impl FirstRaces {
         Ok(())
     }
 
-    /// The races of the accesses to a page with a later step that touches it. The result is how many there are, those
-    /// of steps without a row too.
+    /// Adds the races of the accesses to a page with a later step that touches it. Returns how many there are, with
+    /// those of steps without a row.
     pub fn add(
         &mut self,
         page: &PagePast,
@@ -172,7 +172,7 @@ impl FirstRaces {
         Ok(count)
     }
 
-    /// Lets go of the last rows, as far as those before have enough races.
+    /// Drops the last rows, as far as those before have enough races.
     pub fn trim(&mut self)
         requires { IsCounted self.old }
         ensures rows { self.new.rows.items ≡ take (length self.new.rows.items) self.old.rows.items }
@@ -191,7 +191,7 @@ impl FirstRaces {
         }
     }
 
-    /// A row for the step at a place, if each step before it has one.
+    /// Adds a row for the step at a place, if each step before it has one.
     pub fn open(&mut self, alloc: Global, place: usize) -> Result<(), AllocError>
         requires { IsCounted self.old }
         ensures rows { OnOk result (self.new.rows.items
@@ -207,7 +207,7 @@ impl FirstRaces {
         Ok(())
     }
 
-    /// The races of all rows, as many as are wanted at most.
+    /// The races of all rows, at most `most`.
     pub fn listed(&self, alloc: Global) -> Result<Vec<Race>, AllocError>
         ensures { IfOk result (λ races. races.items
             ≡ take self.now.most (flat_map (λ (row : List RaceOf). row) self.now.rows.items)) }

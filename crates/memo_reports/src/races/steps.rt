@@ -1,4 +1,4 @@
-//! What of each step decides whether it races.
+//! The part of each step that decides whether it races.
 
 ghost use Rattle.std.specs.Prelude.{◌≡◌, ◌<◌, ◌≤◌, ℕ, length, slice_index, IfOk};
 ghost use Rattle.machine_spec.specs.Setup.{map_of};
@@ -16,7 +16,7 @@ use history_facts::facts;
 use release_core::History;
 use std::alloc::{AllocError, Global};
 
-/// What of a step decides whether it races.
+/// The part of a step that decides whether it races.
 #[derive(Drop)]
 pub struct Step {
     /// Its thread.
@@ -36,8 +36,8 @@ fn has_thread(threads: &[u8], t: u8) -> bool
     threads.iter().any(|other| *other == t)
 }
 
-/// One more than the place of the step that gave the thunk at place `i` its view, and 0 where the start did. It is
-/// looked for no further back than the step of the same thread before.
+/// One more than the place of the step that gave the thunk at place `i` its view, or 0 if no step did. The search goes
+/// back no further than the step of the same thread before.
 fn giver_end(facts: &[Fact], i: usize) -> usize
     requires { i < length facts.now }
     ensures end { result ≡ reach.giver_end facts.now i }
@@ -73,11 +73,11 @@ fn seen(graph: &Graph, facts: &[Fact], i: usize) -> Clock
     }
 }
 
-/// What of each step of a history decides whether it races, where the history has so many pages.
+/// The part of each step that decides whether it races, for a history that has `pages` pages.
 ///
 /// # Errors
 ///
-/// An error where the host's memory ran out.
+/// An error if the host's memory ran out.
 pub fn steps_of(alloc: Global, history: &History, pages: usize) -> Result<Vec<Step>, AllocError>
     requires { pages ≡ length (map_of history.now.setup) }
     ensures steps { IfOk result (λ steps.

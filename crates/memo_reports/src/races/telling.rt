@@ -76,7 +76,7 @@ fn text(alloc: Global, addresses: &[u32], races: &Races) -> Result<Vec<u8>, Allo
 ///
 /// # Errors
 ///
-/// An error where the host's memory ran out.
+/// An error if the host's memory ran out.
 #[tactic(auto, unfolding(crate::specs::RacesText::races_listing))]
 pub fn listing(alloc: Global, history: &History, most: usize) -> Result<Vec<u8>, AllocError>
     ensures { IfOk result (λ text. text.items ≡ races_listing most history.now) }

@@ -20,7 +20,7 @@ pub struct Touch {
     pub writes: bool,
 }
 
-/// A slot at a place, or else how many pages there are.
+/// The slot at a place, or `pages` if there is none.
 fn slot_at(slots: &[usize], place: usize, pages: usize) -> usize
     ensures { result ≡ get_or slots.now place pages }
 {
@@ -79,7 +79,7 @@ fn merged(
 ///
 /// # Errors
 ///
-/// An error where the host's memory ran out.
+/// An error if the host's memory ran out.
 pub fn touches_of(alloc: Global, rec: &Record, pages: usize) -> Result<Vec<Touch>, AllocError>
     requires { IsMappedIn pages rec.now }
     ensures { IfOk result (λ touches. touches.items

@@ -1,4 +1,4 @@
-//! What differs between a thread and the record of its step, and first.
+//! The first difference between a thread and the record of its step.
 
 ghost use Rattle.std.specs.Prelude.{◌≡◌, ◌<◌, true, not, length, option_map, IfNone, IfSome, IsNone};
 ghost use Rattle.std.specs.Str.{bytes_eq};
@@ -45,7 +45,7 @@ pub fn register_cause(now: &Regs, was: &Regs) -> Option<Cause>
     })
 }
 
-/// Whether a view has other bytes than those of a read page.
+/// Whether the bytes of a view's page differ from those of a read page.
 #[tactic(auto, using(thunk_record::proofs::Past::no_bytes))]
 fn has_other(view: &PageTable, read: &ReadPage) -> bool
     ensures { result ≡ not (bytes_eq (page_of view.now read.now.slot) read.now.bytes) }
@@ -58,7 +58,7 @@ fn has_other(view: &PageTable, read: &ReadPage) -> bool
     }
 }
 
-/// The first of some read pages whose bytes a view hasn't.
+/// The first of some read pages whose bytes differ from a view's.
 pub fn first_other_page<'r>(view: &PageTable, reads: &'r [ReadPage]) -> Option<&'r ReadPage>
     ensures { option_map (λ p. p.now) result ≡ first_other_page view.now reads.now }
 {

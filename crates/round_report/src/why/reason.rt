@@ -1,18 +1,18 @@
 //! Why a step was executed.
 
-/// Why no record of an earlier run stood for a step.
+/// Why no record of an earlier run was reused for a step.
 #[derive(Clone, Copy)]
 pub enum Cause {
     /// There is no record of this thread at this number.
     NoRecord,
-    /// A register holds another number than at the record's start; the pc has the number 0.
+    /// A register has another value than at the record's start; the pc has the number 0.
     Register {
         register: u8,
         now: u32,
         was: u32,
     },
-    /// A byte of a page that the record has read is another than it was there: the page's address, the byte's place in
-    /// it, and which entry stored it, if one did.
+    /// A byte of a page that the record has read has another value now: the page's address, the byte's place in it, and
+    /// which entry stored it, if one did.
     Byte {
         page: u32,
         place: usize,
@@ -31,6 +31,6 @@ pub struct Reason {
     pub thread: u8,
     /// How many steps the thread had made before.
     pub number: u32,
-    /// Why no record stood for it.
+    /// Why no record was reused for it.
     pub cause: Cause,
 }

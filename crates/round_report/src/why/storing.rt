@@ -13,7 +13,7 @@ use thunk_record::Record;
 /// How many searches are remembered.
 pub const REMEMBERED: usize = 1024;
 
-/// What a search found: which of the first so many entries of a round stored to a place of the page in a slot last.
+/// The result of a search: which of the first `count` entries of a round last stored to a place of the page in a slot.
 #[derive(Clone, Copy)]
 pub struct Search {
     slot: usize,
@@ -35,7 +35,7 @@ impl Search {
         }
     }
 
-    /// What it tells of the first so many entries, or of fewer.
+    /// The result of the search for the first `count` entries, or for fewer.
     fn within(self, count: usize) -> Search
         ensures few { result.count ≤ count }
         ensures slot { result.slot ≡ self.slot }
@@ -66,7 +66,7 @@ fn stores(rec: &Record, slot: usize, place: usize) -> bool
     rec.delta().pages().iter().any(|page| page.slot() == slot && page.stored().mask.get(place))
 }
 
-/// Goes on with a search of fewer entries, back from the last one.
+/// Continues a search of fewer entries, back from the last one.
 fn go_on(round: &Round, search: Search, count: usize) -> Option<usize>
     requires inside { count ≤ length round.now.schedule }
     requires few { search.count ≤ count }
@@ -84,8 +84,8 @@ fn go_on(round: &Round, search: Search, count: usize) -> Option<usize>
     search.storer
 }
 
-/// The last of the first so many entries of a round that stored to a place of the page in a slot. The search goes back
-/// no further than an earlier one for the same byte, where that is remembered.
+/// The last of the first `count` entries of a round that stored to a place of the page in a slot. The search goes back
+/// no further than an earlier one for the same byte, if that is remembered.
 pub fn last_store(
     round: &Round,
     remembered: &mut [Search],
@@ -117,7 +117,7 @@ pub fn last_store(
     storer
 }
 
-/// No search yet.
+/// No searches yet.
 pub fn no_searches(alloc: Global) -> Result<Vec<Search>, AllocError>
     ensures room { IfOk result (λ searches. 0 < length searches.items) }
     ensures right { (records : List Recorded)

@@ -96,7 +96,7 @@ fn reason_line(alloc: Global, reason: &Reason, into: &mut Vec<u8>) -> Result<(),
 ///
 /// # Errors
 ///
-/// An error where the host's memory ran out.
+/// An error if the host's memory ran out.
 pub fn text(alloc: Global, reasons: &[Reason]) -> Result<Vec<u8>, AllocError>
     ensures { IfOk result (λ text. text.items ≡ why_text reasons.now) }
 {

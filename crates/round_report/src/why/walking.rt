@@ -30,14 +30,14 @@ use std::array;
 use std::sync::Arc;
 use thunk_record::Record;
 
-/// The addresses of a round's pages, each at its slot, and what is remembered of searches for stored bytes.
+/// The addresses of a round's pages, each at its slot, and the remembered searches for stored bytes.
 #[derive(Drop)]
 struct Pages {
     addresses: Vec<u32>,
     remembered: Vec<Search>,
 }
 
-/// The least byte that differs of the least read page that does, if one does.
+/// The first byte that differs in the first read page that differs, if one does.
 fn page_cause(
     round: &Round,
     pages: &mut Pages,
@@ -77,7 +77,7 @@ fn page_cause(
     })
 }
 
-/// The record of a thread at a number of steps made in the history that a round goes by, if there is one.
+/// The record of a thread at a number of steps in the history that a round is based on, if there is one.
 fn record_of(round: &Round, thread: u8, number: u32) -> Option<&Arc<Record>>
     ensures found { option_map (λ r. arc_value r.now) result ≡ found round.now.past thread number }
     ensures mapped { IfSome result (λ r. GoesByOldRun round.now.past round.now.setup
@@ -87,7 +87,7 @@ fn record_of(round: &Round, thread: u8, number: u32) -> Option<&Arc<Record>>
     round.old_record(thread, number)
 }
 
-/// Why a record doesn't stand for the next step of a thread, if it doesn't.
+/// Why a record can't be reused for the next step of a thread, if it can't.
 fn record_cause(
     round: &Round,
     core: &Core,
@@ -115,7 +115,7 @@ fn record_cause(
     }
 }
 
-/// Why no record stands for the next step of a thread, if none does.
+/// Why no record can be reused for the next step of a thread, if none can.
 fn cause_at(
     round: &Round,
     core: &Core,
@@ -141,7 +141,7 @@ fn cause_at(
     }
 }
 
-/// The reason of an entry, where it was executed; the machine is that before it.
+/// The reason of an entry, if it was executed; the machine is that before it.
 fn reason_at(
     round: &Round,
     core: &Core,
@@ -183,7 +183,7 @@ fn ready_threads(core: &Core) -> [bool; THREADS]
     array::from_fn(|t| core.ready(t as u8))
 }
 
-/// Notes who got a view by a step of a thread, with how many entries there are now.
+/// Notes which threads got a view by a step of a thread, with how many entries there are now.
 fn note_views(
     since: &mut [usize; THREADS],
     before: &[bool; THREADS],
@@ -203,7 +203,7 @@ fn note_views(
     }
 }
 
-/// Goes on over an entry.
+/// Applies an entry, and notes which threads got a view by it.
 fn walk(
     round: &Round,
     core: &mut Core,
@@ -222,7 +222,7 @@ fn walk(
     Ok(())
 }
 
-/// Puts a reason behind the others, where there is one.
+/// Appends a reason, if there is one.
 fn add_reason(reasons: &mut Vec<Reason>, reason: Option<Reason>) -> Result<(), AllocError>
     ensures { OnOk result (reasons.new.items ≡ reasons.old.items ++ option_to_list reason) }
 {
@@ -232,7 +232,7 @@ fn add_reason(reasons: &mut Vec<Reason>, reason: Option<Reason>) -> Result<(), A
     Ok(())
 }
 
-/// The reasons of a round's executed entries, from the machine that it began as on.
+/// The reasons of a round's executed entries, from its first machine on.
 fn reasons_from(
     alloc: Global,
     round: &Round,
@@ -258,12 +258,12 @@ fn reasons_from(
     Ok(reasons)
 }
 
-/// Why the executed entries of a round were executed, in order. Where the round goes by a history that holds together,
-/// of its program and fuel, each executed entry has a reason; and no other has one.
+/// Why the executed entries of a round were executed, in order. If the round is based on a coherent history of its
+/// program and fuel, each executed entry has a reason; and no other has one.
 ///
 /// # Errors
 ///
-/// An error where the host's memory ran out.
+/// An error if the host's memory ran out.
 pub fn reasons(alloc: Global, round: &Round) -> Result<Vec<Reason>, AllocError>
     ensures reasons { IfOk result (λ rs. rs.items ≡ reasons_of round.now) }
     ensures each { IfOk result (λ rs. GoesByOldRun round.now.past round.now.setup
