@@ -73,14 +73,15 @@ impl Growing {
     ///
     /// # Errors
     ///
-    /// An error if the host's memory ran out.
+    /// An error if the host's memory ran out; the records are then as before.
     pub fn push(&mut self, alloc: Global, rec: Record, used: usize) -> Result<(), AllocError>
         requires few { length self.old.records < MOST_STEPS }
         requires thread { rec.thread < THREADS }
         requires number { rec.number
             ≡ count_by (λ t. t == rec.thread) (threads_of_records self.old.records) }
-        ensures { OnOk result (self.new
+        ensures ok { OnOk result (self.new
             ≡ record { records = self.old.records ++ rec ∷ []; used = used }) }
+        ensures err { OnErr result (self.new ≡ self.old) }
     {
         let thread = usize::from(rec.thread());
         self.records.push(Arc::new(alloc, rec)?)?;

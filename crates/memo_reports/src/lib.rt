@@ -2,5 +2,8 @@
 #![tactic(auto)]
 
 pub mod audit;
+mod lines;
 pub mod listing;
 pub mod races;
+
+pub use lines::{append_number, number_line};

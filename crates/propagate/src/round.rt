@@ -177,13 +177,6 @@ impl Round {
         &self.setup
     }
 
-    /// The history that it is based on, if there is one.
-    pub fn past(&self) -> Option<&Arc<History>>
-        ensures { option_map (λ h. arc_value h.now) result ≡ self.now.past }
-    {
-        self.past.as_ref()
-    }
-
     /// The record of thread `t` and this number in the history that it is based on, if there is one. The records of
     /// this history have their pages in its own map.
     pub fn old_record(&self, t: u8, number: u32) -> Option<&Arc<Record>>

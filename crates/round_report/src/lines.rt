@@ -9,6 +9,7 @@ ghost use Rattle.report_spec.specs.Report.{entry_text, reused_count, executed_co
 ghost use Rattle.round_report.specs.Parts.{counts_part};
 
 use ith_text::decimal;
+use memo_reports::number_line;
 use report_spec::Entry;
 use std::alloc::{AllocError, Global};
 
@@ -19,22 +20,6 @@ pub fn text_line(name: &str, text: &[u8], into: &mut Vec<u8>) -> Result<(), Allo
     into.extend_from_slice(name.as_bytes())?;
     into.push(b' ')?;
     into.extend_from_slice(text)?;
-    into.push(b'\n')?;
-    Ok(())
-}
-
-/// Appends a line: a name, a space, and a number in decimal.
-pub fn number_line(
-    alloc: Global,
-    name: &str,
-    number: u64,
-    into: &mut Vec<u8>,
-) -> Result<(), AllocError>
-    ensures { OnOk result (into.new.items ≡ into.old.items ++ line name.now (decimal number)) }
-{
-    into.extend_from_slice(name.as_bytes())?;
-    into.push(b' ')?;
-    decimal(alloc, number, into)?;
     into.push(b'\n')?;
     Ok(())
 }

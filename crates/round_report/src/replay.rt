@@ -7,8 +7,8 @@ ghost use Rattle.round_report.specs.Replay.{replay_text};
 use super::data::ReportData;
 use super::digest::Digested;
 use super::ending::end_line;
-use super::lines::number_line;
 use super::report::append_outcome;
+use memo_reports::number_line;
 use std::alloc::{AllocError, Global};
 
 /// Appends how the run ended, after how many steps, and how many instructions they made.

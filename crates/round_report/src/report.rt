@@ -8,8 +8,9 @@ use super::data::ReportData;
 use super::digest::{Digested, memory_line};
 use super::ending::end_line;
 use super::lines::{
-    count_lines, number_line, progress_line, reached_line, schedule_line, worker_steps_line,
+    count_lines, progress_line, reached_line, schedule_line, worker_steps_line,
 };
+use memo_reports::number_line;
 use std::alloc::{AllocError, Global};
 
 /// The report of a round of this number: its lines, the output's bytes, and a newline. The digest of the memory is kept

@@ -60,7 +60,9 @@ impl Regs {
 
     /// pc, then x1 to x31.
     pub fn to_words(&self) -> [u32; 32]
-        ensures { result ≡ slice_set self.now.x 0 self.now.pc }
+        ensures value { result ≡ slice_set self.now.x 0 self.now.pc }
+        ensures count { length self.now.x ≡ 32 }
+        ensures zero { register self.now 0 ≡ 0 }
     {
         let mut words = self.x;
         words[0] = self.pc;
@@ -114,15 +116,5 @@ impl Regs {
         ensures { self.new ≡ with_register self.old n value }
     {
         self.x[usize::from(n)] = value;
-    }
-
-    /// x0 to x31. A caller learns that there are 32, and that x0 is zero.
-    #[inline(always)]
-    pub fn as_array(&self) -> &[u32; 32]
-        ensures value { result.now ≡ self.now.x }
-        ensures count { length self.now.x ≡ 32 }
-        ensures zero { register self.now 0 ≡ 0 }
-    {
-        &self.x
     }
 }

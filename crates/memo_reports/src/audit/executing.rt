@@ -1,7 +1,7 @@
 //! Claims whose thunks are executed again, side by side.
 
 ghost use Rattle.std.specs.Thread.{IsSync};
-ghost use Rattle.std.specs.Prelude.{◌≡◌, ◌<◌, ◌≤◌, [], ◌∷◌, length, take, drop, IfOk};
+ghost use Rattle.std.specs.Prelude.{◌≡◌, ◌<◌, ◌≤◌, [], ◌∷◌, length, IfOk};
 ghost use Rattle.machine_spec.specs.declared.TheConstants.{MOST_STEPS};
 ghost use Rattle.memo_reports.specs.Claims.{IsFoundIn};
 
@@ -70,17 +70,6 @@ fn cut_of(claims: &[Claim], few: u32, all: u32) -> usize
     claims.len() - 1
 }
 
-/// The verdict of claims that were cut in two.
-fn found_in_both(claims: &[Claim], cut: usize, first: Verdict, second: Verdict) -> Verdict
-    requires few { length claims.now ≤ MOST_STEPS }
-    requires cut { cut ≤ length claims.now }
-    requires front { IsFoundIn (take cut claims.now) first }
-    requires back { IsFoundIn (drop cut claims.now) second }
-    ensures { IsFoundIn claims.now result }
-{
-    first.and(cut as u32, second)
-}
-
 /// Executes the thunks of claims by `workers` workers, each of which has some that follow one another, and returns the
 /// verdict. If a worker can't be started, the one that would start it does its part.
 ///
@@ -114,5 +103,5 @@ pub(super) fn audit_together<R: Threads + Sync>(
             ensures { IfOk result (IsFoundIn back.entry.now) }
         { audit_together(rt, alloc, back, others) },
     );
-    Ok(found_in_both(claims, cut, first?, second?))
+    Ok(first?.and(cut as u32, second?))
 }

@@ -1,23 +1,11 @@
 //! The text of an audit.
 
-ghost use Rattle.std.specs.Prelude.{◌≡◌, ◌++◌, IfOk, OnOk, decimal};
-ghost use Rattle.report_spec.specs.Text.{line};
+ghost use Rattle.std.specs.Prelude.{◌≡◌, IfOk};
 ghost use Rattle.memo_reports.specs.AuditText.{audit_text};
 
 use super::verdict::Verdict;
-use ith_text::decimal;
+use crate::lines::number_line;
 use std::alloc::{AllocError, Global};
-
-/// Appends a line: a name, a space, and a number in decimal. If memory runs out, a part of it may have been appended.
-fn number_line(alloc: Global, name: &str, number: u64, into: &mut Vec<u8>) -> Result<(), AllocError>
-    ensures { OnOk result (into.new.items ≡ into.old.items ++ line name.now (decimal number)) }
-{
-    into.extend_from_slice(name.as_bytes())?;
-    into.push(b' ')?;
-    decimal(alloc, number, into)?;
-    into.push(b'\n')?;
-    Ok(())
-}
 
 /// The lines of an audit: how many records were audited, how many instructions were executed, and `honest`, or `false`
 /// with the place of the first false record.

@@ -1,6 +1,6 @@
 //! The line of a record.
 
-ghost use Rattle.std.specs.Prelude.{◌≡◌, ◌++◌, length, OnOk, decimal};
+ghost use Rattle.std.specs.Prelude.{◌≡◌, ◌++◌, length, OnOk};
 ghost use Rattle.isa_spec.specs.Causes.{number_of};
 ghost use Rattle.isa_spec.specs.Registers.{register};
 ghost use Rattle.history_spec.specs.History.{IsMappedIn};
@@ -8,8 +8,8 @@ ghost use Rattle.memo_reports.specs.Listing.{end_text, entry_line};
 ghost use Rattle.memo_reports.specs.Parts.{step_part, pages_part};
 
 use super::pages::{append_reads, append_writes};
+use crate::lines::append_number;
 use isa_spec::Cause;
-use ith_text::decimal;
 use std::alloc::{AllocError, Global};
 use thunk_record::Record;
 use thunk_spec::ThunkEnd;
@@ -50,19 +50,6 @@ fn append_step(
     into.extend_from_slice(b" end ")?;
     append_end(alloc, rec.end(), rec.finish().get(A7), into)?;
     append_number(alloc, " count ", u64::from(rec.count()), into)
-}
-
-/// Appends a text and a number in decimal.
-fn append_number(
-    alloc: Global,
-    name: &str,
-    number: u64,
-    into: &mut Vec<u8>,
-) -> Result<(), AllocError>
-    ensures { OnOk result (into.new.items ≡ into.old.items ++ name.now ++ decimal number) }
-{
-    into.extend_from_slice(name.as_bytes())?;
-    decimal(alloc, number, into)
 }
 
 /// Appends how a thunk ended; a call by its number, which is in a7.

@@ -1,29 +1,17 @@
 //! Races as text.
 
-ghost use Rattle.std.specs.Prelude.{◌≡◌, ◌++◌, codes, decimal, IfOk, OnOk};
+ghost use Rattle.std.specs.Prelude.{◌≡◌, ◌++◌, codes, IfOk, OnOk};
 ghost use Rattle.memo_reports.specs.Listing.{address_text};
 ghost use Rattle.memo_reports.specs.RacesText.{access_text, race_line, races_text, races_listing};
 
 use super::finding::races;
 use super::list::Races;
+use crate::lines::append_number;
 use crate::listing::addresses_of;
-use ith_text::{decimal, hex8};
+use ith_text::hex8;
 use release_core::History;
 use round_spec::Race;
 use std::alloc::{AllocError, Global};
-
-/// Appends a text, and a number in decimal.
-fn append_number(
-    alloc: Global,
-    text: &str,
-    number: u64,
-    into: &mut Vec<u8>,
-) -> Result<(), AllocError>
-    ensures { OnOk result (into.new.items ≡ into.old.items ++ text.now ++ decimal number) }
-{
-    into.extend_from_slice(text.as_bytes())?;
-    decimal(alloc, number, into)
-}
 
 /// Appends the letter of a step by whether it writes the page.
 fn append_access(writes: bool, into: &mut Vec<u8>) -> Result<(), AllocError>

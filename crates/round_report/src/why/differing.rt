@@ -32,7 +32,6 @@ pub fn register_cause(now: &Regs, was: &Regs) -> Option<Cause>
         (first_difference (numbered now.now) (numbered was.now)) }
     ensures none { IfNone result (same_registers was.now now.now ≡ true) }
 {
-    let (_now, _was) = (now.as_array(), was.as_array());
     let now = now.to_words();
     let was = was.to_words();
     let Some(register) = first_other_word(&now, &was) else {

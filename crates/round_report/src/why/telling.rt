@@ -6,20 +6,8 @@ ghost use Rattle.round_report.specs.WhyText.{storer_text, change_text, cause_tex
 
 use super::reason::{Cause, Reason};
 use ith_text::{decimal, hex8};
+use memo_reports::append_number;
 use std::alloc::{AllocError, Global};
-
-/// Appends a text, and a number in decimal.
-fn append_number(
-    alloc: Global,
-    text: &str,
-    number: u64,
-    into: &mut Vec<u8>,
-) -> Result<(), AllocError>
-    ensures { OnOk result (into.new.items ≡ into.old.items ++ text.now ++ decimal number) }
-{
-    into.extend_from_slice(text.as_bytes())?;
-    decimal(alloc, number, into)
-}
 
 /// Appends what a number is now, and what it was.
 fn append_change(alloc: Global, now: u32, was: u32, into: &mut Vec<u8>) -> Result<(), AllocError>

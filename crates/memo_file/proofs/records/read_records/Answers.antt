@@ -22,7 +22,7 @@ pub loop-preserved : goal.loop-preserved
 loop-preserved c =
     let rs = c.loop.growing.records in
     let made = c.in_ok-made.made in
-    rw (c.in_ok-push.ensures, threads_push rs made) (
+    rw (c.in_ok-push.ensures.ok, threads_push rs made) (
       omega (arith, c.loop.invariant.0, length-append rs (made ∷ [])),
       goes_on (record_at c.args.sources.now.slots.now c.args.sources.now.fuel
           (map arc_value c.args.sources.now.pool.now)) rs c.args.entries c.loop.counter (state_of c.loop.growing)

@@ -30,8 +30,8 @@ invariant_of-self-2 c =
     rw (c.in_ok-push.ensures.ok, rec, t) (counts_more c.self.inside.counts c.self.inside.records c.args.rec len
     c.self.invariant c.requires.thread)
 
-pub returns : goal.returns
-returns c =
+pub returns-clause-ok : goal.returns-clause-ok
+returns-clause-ok c =
     let rec : arc_value c.in_ok-new.field-0 ≡ c.args.rec = search rules in
     rw (c.in_ok-push.ensures.ok, rec) (ap grown c.self.view_is)
   where

@@ -34,5 +34,5 @@ loop-number-preserved c =
 pub returns : goal.returns
 returns c =
     all-words c.to_words-words.result c.args.out.now.items c.loop-number.out.items c.args.regs.now.x
-    c.loop-number.number-index c.args.regs.now.pc (omega arith) c.to_words-words.ensures (omega arith)
+    c.loop-number.number-index c.args.regs.now.pc (omega arith) c.to_words-words.ensures.value (omega arith)
     c.loop-number.invariant

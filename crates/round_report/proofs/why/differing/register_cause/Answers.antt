@@ -7,6 +7,6 @@ use Rattle.round_report.proofs.why.differing.register_cause.Goals as goal
 pub returns-in_default-clause-none : goal.returns-in_default-clause-none
 returns-in_default-clause-none c =
     let none : first_difference (numbered c.args.now.now) (numbered c.args.was.now) ≡ None =
-    rw (← c.to_words-now.ensures, ← c.to_words-was.ensures) (sym c.first_other_word.ensures.first ∙ c.in_default.is) in
-    same-registers c.args.now.now c.args.was.now c.as_array-now.ensures.count c.as_array-was.ensures.count
-    c.as_array-now.ensures.zero c.as_array-was.ensures.zero none
+    rw (← c.to_words-now.ensures.value, ← c.to_words-was.ensures.value) (sym c.first_other_word.ensures.first ∙ c.in_default.is) in
+    same-registers c.args.now.now c.args.was.now c.to_words-now.ensures.count c.to_words-was.ensures.count
+    c.to_words-now.ensures.zero c.to_words-was.ensures.zero none
