@@ -137,7 +137,7 @@ up_to_some-earlier fs p n h k low same up =
     let pass = and-left (p some.at) (is_up_to fs some.at k) some.is in
     let at_most = and-right (p some.at) (is_up_to fs some.at k) some.is in
     let late = no-step_after fs some.at k at_most in
-    let told = (clock-tells fs some.at k late).0 at_most in
+    let reported = (clock-tells fs some.at k late).0 at_most in
     let fewer = count-step (λ j. eqb (fact_at fs j).thread (fact_at fs k).thread) h k low
     (eq-eqb (fact_at fs h).thread (fact_at fs k).thread same) in
     let number : number_at fs h ≡ count_below (λ j. eqb (fact_at fs j).thread (fact_at fs k).thread) h =

@@ -279,8 +279,8 @@ module _ (fs : List Fact) (reads : List (List ℕ)) (pages : List ℕ) (n : ℕ)
       (below-some (λ i. reached i && (ltb i (giver_end fs n) && writes fs page.value i)) n w below
       (rw (is, early) page.listed)))
 
-  next-told : reached n ≡ true → (is_led || list_any is_shown (read_at reads n)) ≡ true
-  next-told is =
+  next-reported : reached n ≡ true → (is_led || list_any is_shown (read_at reads n)) ≡ true
+  next-reported is =
       let why = sym (reached-pass fs reads pages n) ∙ is in
       elim (is_or_not (meets pages (read_at reads n))) [
         | inl start ↦
@@ -305,23 +305,23 @@ module _ (fs : List Fact) (reads : List (List ℕ)) (pages : List ℕ) (n : ℕ)
   pub next-reached : (is_led || list_any is_shown (read_at reads n)) ≡ reached n
   next-reached =
       both-ways (is_led || list_any is_shown (read_at reads n)) (reached n)
-      (λ told. elim (is_or_not is_led) [
+      (λ reported. elim (is_or_not is_led) [
         | inl led ↦ led-reached led
-        | inr isnt ↦ shown-reached (rw isnt at told)
+        | inr isnt ↦ shown-reached (rw isnt at reported)
       ])
-      next-told
+      next-reported
 
 any-listed : (p q : ℕ → Bool) (ks : List ℕ) → ((k : ℕ) → p k ≡ q k) → list_any p ks ≡ list_any q ks
 any-listed p q [] same = refl
 any-listed p q (k ∷ ks) same = ap₂ (λ (a b : Bool). a || b) (same k) (any-listed p q ks same)
 
 -- what is kept of the first steps tells whether the next one is reached
-pub next-told_by :
+pub next-round_text_by :
     (fs : List Fact) (reads : List (List ℕ)) (pages : List ℕ) (n : ℕ) (past : Reached) (f : Fact) (slots : List ℕ)
     → IsReachedPast fs reads pages n past → f ≡ fact_at fs n → slots ≡ read_at reads n → f.thread < THREADS
     → (led_of past f.thread || list_any (λ p. shows past.changes p (end_of past f.thread)) slots)
     ≡ is_reached fs reads pages n
-next-told_by fs reads pages n past f slots kept is own known =
+next-round_text_by fs reads pages n past f slots kept is own known =
     let t = f.thread in
     let same : t ≡ (fact_at fs n).thread = ap (λ (g : Fact). g.thread) is in
     ap₂ (λ (a b : Bool). a || b)

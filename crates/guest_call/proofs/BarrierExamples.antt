@@ -78,7 +78,7 @@ barrier_init-while-somebody-waits-changes-nothing = refl
 
 -- the first two of three block, in order
 pub barrier_wait-of-the-first-blocks :
-    effect_of of_three 0 (BarrierWait 0) ≡ record { fate = Blocks; woken = []; told = None; created = None }
+    effect_of of_three 0 (BarrierWait 0) ≡ record { fate = Blocks; woken = []; reported = None; created = None }
 unfolding all_uninitialised
 barrier_wait-of-the-first-blocks = refl
 
@@ -89,7 +89,7 @@ barrier_wait-waits-in-order = refl
 -- the third wakes both, and gets 1
 pub barrier_wait-of-the-last-wakes-all :
     effect_of two_came 2 (BarrierWait 0)
-    ≡ record { fate = Returns 1 None; woken = 0 ∷ 1 ∷ []; told = None; created = None }
+    ≡ record { fate = Returns 1 None; woken = 0 ∷ 1 ∷ []; reported = None; created = None }
 unfolding all_uninitialised
 barrier_wait-of-the-last-wakes-all = refl
 

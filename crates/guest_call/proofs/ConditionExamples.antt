@@ -75,7 +75,7 @@ signalled = then_call taken 0 (Signal 0)
 
 -- cond_wait blocks, and frees the mutex
 pub cond_wait-blocks :
-    effect_of locked 1 (CondWait 0 0) ≡ record { fate = Blocks; woken = []; told = None; created = None }
+    effect_of locked 1 (CondWait 0 0) ≡ record { fate = Blocks; woken = []; reported = None; created = None }
 unfolding all_unlocked all_unawaited
 cond_wait-blocks = refl
 
@@ -108,7 +108,7 @@ signal-of-a-held-mutex-waits-for-it = refl
 
 -- the unlock hands the mutex over, and wakes it
 pub unlock-wakes-who-was-signalled :
-    effect_of signalled 0 (Unlock 0) ≡ record { fate = Returns 0 None; woken = 1 ∷ []; told = None; created = None }
+    effect_of signalled 0 (Unlock 0) ≡ record { fate = Returns 0 None; woken = 1 ∷ []; reported = None; created = None }
 unfolding all_unlocked all_unawaited
 unlock-wakes-who-was-signalled = refl
 
@@ -122,7 +122,7 @@ unlock-hands-over-to-who-was-signalled = refl
 -- as in unlock, the first who waits for the mutex gets it
 pub cond_wait-wakes-the-first :
     effect_of (then_call locked 2 (Lock 0)) 1 (CondWait 0 0)
-    ≡ record { fate = Blocks; woken = 2 ∷ []; told = None; created = None }
+    ≡ record { fate = Blocks; woken = 2 ∷ []; reported = None; created = None }
 unfolding all_unlocked all_unawaited
 cond_wait-wakes-the-first = refl
 
@@ -185,7 +185,7 @@ signal-of-nobody-answers-0 = refl
 
 -- with the mutex free the thread owns it, and is woken
 pub signal-with-a-free-mutex-wakes :
-    effect_of one_waits 0 (Signal 0) ≡ record { fate = Returns 0 None; woken = 1 ∷ []; told = None; created = None }
+    effect_of one_waits 0 (Signal 0) ≡ record { fate = Returns 0 None; woken = 1 ∷ []; reported = None; created = None }
 unfolding all_unlocked all_unawaited
 signal-with-a-free-mutex-wakes = refl
 
@@ -217,7 +217,7 @@ signal-moves-the-first = refl
 -- a broadcast with the mutex free wakes the first
 pub broadcast-wakes-the-first :
     effect_of three_await 0 (Broadcast 0)
-    ≡ record { fate = Returns 0 None; woken = 1 ∷ []; told = None; created = None }
+    ≡ record { fate = Returns 0 None; woken = 1 ∷ []; reported = None; created = None }
 unfolding all_unlocked all_unawaited
 broadcast-wakes-the-first = refl
 

@@ -76,13 +76,13 @@ call-4294967295-is-bad = refl
 
 -- exit tells the whole of a0, also one above 255
 pub exit-tells-all-of-a0 :
-    effect_of opening 0 (Exit 4294967295) ≡ record { fate = Exits 4294967295; woken = []; told = None; created = None }
+    effect_of opening 0 (Exit 4294967295) ≡ record { fate = Exits 4294967295; woken = []; reported = None; created = None }
 exit-tells-all-of-a0 = refl
 
 -- yield answers 0
 pub yield-answers-0 :
     act all_readable opening 0 Yield
-    ≡ (record { fate = Returns 0 None; woken = []; told = None; created = None }, opening)
+    ≡ (record { fate = Returns 0 None; woken = []; reported = None; created = None }, opening)
 yield-answers-0 = refl
 
 -- put.
@@ -137,13 +137,13 @@ put-too-long-acts-on-nothing = refl
 -- the first thread that is created has number 1, and begins at the pc with the argument
 pub create-answers-1 :
     effect_of opening 0 (Create 65536 7)
-    ≡ record { fate = Returns 1 None; woken = []; told = None; created = Some (65536, 7) }
+    ≡ record { fate = Returns 1 None; woken = []; reported = None; created = Some (65536, 7) }
 create-answers-1 = refl
 
 -- the next has number 2, whoever creates it
 pub create-answers-2 :
     effect_of (then_call opening 0 (Create 65536 7)) 1 (Create 65540 8)
-    ≡ record { fate = Returns 2 None; woken = []; told = None; created = Some (65540, 8) }
+    ≡ record { fate = Returns 2 None; woken = []; reported = None; created = Some (65540, 8) }
 create-answers-2 = refl
 
 -- the last that fits has number 31
@@ -179,13 +179,13 @@ create-at-an-odd-pc-acts-on-nothing = refl
 
 -- the join of a thread that runs blocks
 pub join-of-a-running-thread-blocks :
-    effect_of four_threads 0 (Join 2) ≡ record { fate = Blocks; woken = []; told = None; created = None }
+    effect_of four_threads 0 (Join 2) ≡ record { fate = Blocks; woken = []; reported = None; created = None }
 join-of-a-running-thread-blocks = refl
 
 -- the end of a thread wakes its joiner and tells it the value
 pub thread_exit-wakes-the-joiner :
     effect_of (then_call four_threads 0 (Join 2)) 2 (ThreadExit 51)
-    ≡ record { fate = Ends 51; woken = 0 ∷ []; told = Some 51; created = None }
+    ≡ record { fate = Ends 51; woken = 0 ∷ []; reported = Some 51; created = None }
 thread_exit-wakes-the-joiner = refl
 
 -- the end of a thread that nobody joins wakes nobody
@@ -195,7 +195,7 @@ thread_exit-wakes-nobody = refl
 -- the join of a thread that has ended answers 0, with the value in a1
 pub join-of-an-ended-thread-tells-its-value :
     effect_of (then_call four_threads 1 (ThreadExit 51)) 0 (Join 1)
-    ≡ record { fate = Returns 0 (Some 51); woken = []; told = None; created = None }
+    ≡ record { fate = Returns 0 (Some 51); woken = []; reported = None; created = None }
 join-of-an-ended-thread-tells-its-value = refl
 
 -- a second joiner is refused with EINVAL while the first waits
@@ -251,7 +251,7 @@ lock-of-a-free-mutex-owns-it = refl
 -- a mutex that another holds blocks
 pub lock-of-a-held-mutex-blocks :
     effect_of (then_call four_threads 1 (Lock 3)) 2 (Lock 3)
-    ≡ record { fate = Blocks; woken = []; told = None; created = None }
+    ≡ record { fate = Blocks; woken = []; reported = None; created = None }
 unfolding all_unlocked
 lock-of-a-held-mutex-blocks = refl
 
@@ -279,7 +279,7 @@ unlock-of-mutex-64-is-invalid = refl
 
 -- unlock hands the mutex to the first who waits, and the others stay in order
 pub unlock-wakes-the-first :
-    effect_of three_wait 1 (Unlock 3) ≡ record { fate = Returns 0 None; woken = 2 ∷ []; told = None; created = None }
+    effect_of three_wait 1 (Unlock 3) ≡ record { fate = Returns 0 None; woken = 2 ∷ []; reported = None; created = None }
 unfolding all_unlocked
 unlock-wakes-the-first = refl
 

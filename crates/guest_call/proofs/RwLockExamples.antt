@@ -14,7 +14,7 @@ third o = slice_index_or o.rwlocks 3 unheld
 
 -- the caller gets 0, and these threads are woken
 abbrev pub lets_in : List ℕ → Effect
-lets_in threads = record { fate = Returns 0 None; woken = threads; told = None; created = None }
+lets_in threads = record { fate = Returns 0 None; woken = threads; reported = None; created = None }
 
 -- threads 0 and 1 read
 abbrev pub two_read : Objects

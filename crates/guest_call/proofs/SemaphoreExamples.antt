@@ -74,7 +74,7 @@ sem_wait-takes-one = refl
 
 -- at 0, the value at the start, it blocks
 pub sem_wait-at-0-blocks :
-    effect_of four_threads 1 (SemWait 3) ≡ record { fate = Blocks; woken = []; told = None; created = None }
+    effect_of four_threads 1 (SemWait 3) ≡ record { fate = Blocks; woken = []; reported = None; created = None }
 unfolding all_unposted
 sem_wait-at-0-blocks = refl
 
@@ -130,7 +130,7 @@ sem_post-adds-one = refl
 
 -- with somebody waiting the first is woken, and the value stays
 pub sem_post-wakes-the-first :
-    effect_of two_wait 0 (SemPost 3) ≡ record { fate = Returns 0 None; woken = 1 ∷ []; told = None; created = None }
+    effect_of two_wait 0 (SemPost 3) ≡ record { fate = Returns 0 None; woken = 1 ∷ []; reported = None; created = None }
 unfolding all_unposted
 sem_post-wakes-the-first = refl
 

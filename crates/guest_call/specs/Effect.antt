@@ -8,12 +8,12 @@ pub use Rattle.guest_call.specs.declared.Fate.TheVariants.{Returns, Blocks, Ends
 pub record Effect : Type 0 where
   pub fate : Fate
   pub woken : List ℕ
-  pub told : Option ℕ
+  pub reported : Option ℕ
   pub created : Option (ℕ × ℕ)
 
 -- a fate of the caller, with these threads woken
 abbrev pub wakes : Fate → List ℕ → Effect
-wakes f threads = record { fate = f; woken = threads; told = None; created = None }
+wakes f threads = record { fate = f; woken = threads; reported = None; created = None }
 
 -- the caller returns at once with this answer in a0, and nothing else happens
 abbrev pub answers : ℕ → Effect

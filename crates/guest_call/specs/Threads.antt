@@ -30,7 +30,7 @@ member_at members u = slice_index_or members u fresh
 -- a thread was created with this number, first pc and argument (POSIX.1-2017, pthread_create)
 abbrev pub creates : ℕ → ℕ → ℕ → Effect
 creates number pc argument =
-    record { fate = Returns number None; woken = []; told = None; created = Some (pc, argument) }
+    record { fate = Returns number None; woken = []; reported = None; created = Some (pc, argument) }
 
 -- create: a pc that isn't a multiple of 4 is refused, and so is a thread beyond 32; else the least number unused
 -- (POSIX.1-2017, pthread_create)
@@ -47,7 +47,7 @@ ended_with v c = record { joiner = c.joiner; value = Some v }
 -- thread_exit, called by t: t ends, and the thread that waits to join it gets the value (POSIX.1-2017, pthread_exit)
 abbrev pub thread_exit_row : ℕ → ℕ → List Member → Effect × List Member
 thread_exit_row t v members = (
-  record { fate = Ends v; woken = member_queue (member_at members t); told = Some v; created = None },
+  record { fate = Ends v; woken = member_queue (member_at members t); reported = Some v; created = None },
   slice_set members t (ended_with v (member_at members t)),
 )
 

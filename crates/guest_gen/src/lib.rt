@@ -1,4 +1,4 @@
-//! A guest, an input and an edit of it, generated from a number.
+//! A generated guest, and an input and an edit of it that are generated from a number.
 //!
 //! The guest is the same for each number. Eight threads add up the bytes of the input, each of them every eighth block
 //! of 4,096 bytes, and add each block's sum to a total under a mutex; the total's four bytes are output, the lowest

@@ -158,10 +158,10 @@ fn main(rt: HostRuntime) -> ExitCode {
     let alloc = rt.alloc();
     let words = match words_of(alloc, &rt) {
         Ok(words) => words,
-        Err(refusal) => return refusal.told(&rt, &[]),
+        Err(refusal) => return refusal.reported(&rt, &[]),
     };
     match answer(&rt, alloc, words.as_slice()) {
         Ok(()) => ExitCode::SUCCESS,
-        Err(refusal) => refusal.told(&rt, words.as_slice()),
+        Err(refusal) => refusal.reported(&rt, words.as_slice()),
     }
 }

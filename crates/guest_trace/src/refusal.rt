@@ -17,7 +17,7 @@ pub enum Why {
     /// Its thread waits.
     Waits,
     /// Its thread has ended.
-    Gone,
+    Exited,
 }
 
 /// Why a run isn't traced to its end.
@@ -76,7 +76,7 @@ impl fmt::Display for Why {
             Why::Ended => "the run has ended before it",
             Why::Nobody => "there is no such thread",
             Why::Waits => "the thread waits",
-            Why::Gone => "the thread has ended",
+            Why::Exited => "the thread has ended",
         };
         f.write_str(text)
     }
@@ -106,7 +106,7 @@ impl Refusal {
     }
 
     /// Reports it on standard error, in one line, and returns the exit status.
-    pub fn told<R: Eprint>(self, rt: &R, words: &[String]) -> ExitCode {
+    pub fn reported<R: Eprint>(self, rt: &R, words: &[String]) -> ExitCode {
         let _ = match self {
             Refusal::Words => eprintln!(rt;
                 "words: ELF INPUT SCHEDULE are wanted, and then --fuel F or --steps S"

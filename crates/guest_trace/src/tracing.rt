@@ -44,9 +44,9 @@ fn write_wait<W: Write>(out: &mut W, waits: &Waits, thread: u8) -> io::Result<()
 /// Writes what became of the caller.
 fn write_fate<W: Write>(out: &mut W, waits: &Waits, thread: u8, fate: Fate) -> io::Result<()> {
     match fate {
-        Fate::Returns(a0, told) => {
+        Fate::Returns(a0, reported) => {
             write!(out, " = {}", Answer(a0))?;
-            match told {
+            match reported {
                 Some(value) => write!(out, " and {value}"),
                 None => Ok(()),
             }
@@ -65,7 +65,7 @@ fn write_others<W: Write>(out: &mut W, effect: &Effect) -> io::Result<()> {
     let woken = effect.woken();
     for i in 0..woken.len() {
         write!(out, ", wakes thread {} with 0", woken.at(i).number())?;
-        if let Some(value) = effect.told() {
+        if let Some(value) = effect.reported() {
             write!(out, " and {value}")?;
         }
     }
@@ -149,7 +149,7 @@ fn number_of(machine: &PlainMachine, thread: u8) -> Result<u32, Why> {
     match machine.status(thread) {
         Status::Ready => Ok(machine.number(thread)),
         Status::Blocked => Err(Why::Waits),
-        Status::Ended(_) => Err(Why::Gone),
+        Status::Ended(_) => Err(Why::Exited),
     }
 }
 

@@ -26,12 +26,12 @@ use Rattle.history_spec.proofs.Lists.{or-left, or-right, is_in-places}
 
 -- one hart after some threads were woken
 abbrev pub woken_at : Memory → Option ℕ → List ℕ → ℕ → Hart → Hart
-woken_at memory told [] u h = h
-woken_at memory told (v ∷ us) u h = woken_at memory told us u (cond (eqb v u) (returned memory 0 told h) h)
+woken_at memory reported [] u h = h
+woken_at memory reported (v ∷ us) u h = woken_at memory reported us u (cond (eqb v u) (returned memory 0 reported h) h)
 
 -- after an effect, with nobody created
 abbrev pub settled_at : Effect → Memory → ℕ → ℕ → Hart → Hart
-settled_at e memory t u h = woken_at memory e.told e.woken u (cond (eqb t u) (fated e.fate memory h) h)
+settled_at e memory t u h = woken_at memory e.reported e.woken u (cond (eqb t u) (fated e.fate memory h) h)
 
 -- after a thread was created
 abbrev pub created_at : Memory → Option (ℕ × ℕ) → ℕ → ℕ → Hart → Hart
@@ -68,19 +68,19 @@ set-at hs v u f below =
     ]
 
 woken-at :
-    (memory : Memory) (told : Option ℕ) (us : List ℕ) (hs : List Hart) (u : ℕ)
-    → u < length hs → hart_in (woken memory told us hs) u ≡ woken_at memory told us u (hart_in hs u)
-woken-at memory told [] hs u below = refl
-woken-at memory told (v ∷ us) hs u below =
-    woken-at memory told us (set hs v (returned memory 0 told (hart_in hs v))) u
-    (let count = length-set hs v (returned memory 0 told (hart_in hs v)) in omega arith)
-    ∙ ap (woken_at memory told us u) (set-at hs v u (returned memory 0 told) below)
+    (memory : Memory) (reported : Option ℕ) (us : List ℕ) (hs : List Hart) (u : ℕ)
+    → u < length hs → hart_in (woken memory reported us hs) u ≡ woken_at memory reported us u (hart_in hs u)
+woken-at memory reported [] hs u below = refl
+woken-at memory reported (v ∷ us) hs u below =
+    woken-at memory reported us (set hs v (returned memory 0 reported (hart_in hs v))) u
+    (let count = length-set hs v (returned memory 0 reported (hart_in hs v)) in omega arith)
+    ∙ ap (woken_at memory reported us u) (set-at hs v u (returned memory 0 reported) below)
 
 length-called :
     (e : Effect) (memory : Memory) (t : ℕ) (hs : List Hart)
-    → length (woken memory e.told e.woken (set hs t (fated e.fate memory (hart_in hs t)))) ≡ length hs
+    → length (woken memory e.reported e.woken (set hs t (fated e.fate memory (hart_in hs t)))) ≡ length hs
 length-called e memory t hs =
-    length-woken memory e.told e.woken (set hs t (fated e.fate memory (hart_in hs t)))
+    length-woken memory e.reported e.woken (set hs t (fated e.fate memory (hart_in hs t)))
     ∙ length-set hs t (fated e.fate memory (hart_in hs t))
 
 settled-at :
@@ -89,10 +89,10 @@ settled-at :
 settled-at e memory t hs u below =
     let count = length-called e memory t hs in
     let count_set = length-set hs t (fated e.fate memory (hart_in hs t)) in
-    created-stays memory e.created (woken memory e.told e.woken (set hs t (fated e.fate memory (hart_in hs t)))) u
+    created-stays memory e.created (woken memory e.reported e.woken (set hs t (fated e.fate memory (hart_in hs t)))) u
     (omega arith)
-    ∙ woken-at memory e.told e.woken (set hs t (fated e.fate memory (hart_in hs t))) u (omega arith)
-    ∙ ap (woken_at memory e.told e.woken u) (set-at hs t u (fated e.fate memory) below)
+    ∙ woken-at memory e.reported e.woken (set hs t (fated e.fate memory (hart_in hs t))) u (omega arith)
+    ∙ ap (woken_at memory e.reported e.woken u) (set-at hs t u (fated e.fate memory) below)
 
 push-at : (hs : List Hart) (h : Hart) → hart_in (hs ++ h ∷ []) (length hs) ≡ h
 push-at [] h = refl
@@ -123,7 +123,7 @@ settled-past :
     → length hs ≤ u → hart_in (settled e memory t hs) u ≡ created_at memory e.created (length hs) u nobody
 settled-past e memory t hs u past =
     let count = length-called e memory t hs in
-    created-past memory e.created (woken memory e.told e.woken (set hs t (fated e.fate memory (hart_in hs t)))) u
+    created-past memory e.created (woken memory e.reported e.woken (set hs t (fated e.fate memory (hart_in hs t)))) u
     (omega arith)
     ∙ ap (λ (n : ℕ). created_at memory e.created n u nobody) count
 
@@ -183,12 +183,12 @@ pub waits-ready :
 waits-ready m u tied ready = tied.blocked u ∙ blocked_count-ready (hart_of m u).status ready
 
 pub woken_at-none :
-    (memory : Memory) (told : Option ℕ) (us : List ℕ) (u : ℕ) (h : Hart)
-    → is_in u us ≡ false → woken_at memory told us u h ≡ h
-woken_at-none memory told [] u h none = refl
-woken_at-none memory told (v ∷ us) u h none =
+    (memory : Memory) (reported : Option ℕ) (us : List ℕ) (u : ℕ) (h : Hart)
+    → is_in u us ≡ false → woken_at memory reported us u h ≡ h
+woken_at-none memory reported [] u h none = refl
+woken_at-none memory reported (v ∷ us) u h none =
     let first : eqb v u ≡ false = or-left (eqb v u) (is_in u us) none in
-    rw first (woken_at-none memory told us u h (or-right (eqb v u) (is_in u us) none))
+    rw first (woken_at-none memory reported us u h (or-right (eqb v u) (is_in u us) none))
 
 -- what an applied record leaves of each hart
 pub apply-at :
@@ -233,8 +233,8 @@ apply-at m r u tied ready =
           ∙ ap (created_at memory (effect_of m r).created (length m.harts) u)
           (sym (ap (λ (g : Hart). settled_at (effect_of m r) memory r.thread u (ran_at r u g)) none
           ∙ ap (settled_at (effect_of m r) memory r.thread u) ran
-          ∙ ap (woken_at memory (effect_of m r).told (effect_of m r).woken u) calm
-          ∙ woken_at-none memory (effect_of m r).told (effect_of m r).woken u nobody quiet))
+          ∙ ap (woken_at memory (effect_of m r).reported (effect_of m r).woken u) calm
+          ∙ woken_at-none memory (effect_of m r).reported (effect_of m r).woken u nobody quiet))
     ]
 
 -- the other parts of the machine
@@ -244,7 +244,7 @@ done-length :
     → length (done_as_asked m t a).harts ≡ length m.harts + created_count (acted m t a).0.created
 done-length m t (Asks call) =
     length-created m.memory e.created
-    (woken m.memory e.told e.woken (set m.harts t (fated e.fate m.memory (hart_in m.harts t))))
+    (woken m.memory e.reported e.woken (set m.harts t (fated e.fate m.memory (hart_in m.harts t))))
     ∙ ap (λ (n : ℕ). n + created_count e.created) (length-called e m.memory t m.harts)
   where
     e : Effect

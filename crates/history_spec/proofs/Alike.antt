@@ -60,9 +60,9 @@ bare-cond true x y g h same rest = same
 bare-cond false x y g h same rest = rest
 
 bare-returned :
-    (mem other : Memory) (a : ℕ) (told : Option ℕ) (g h : Hart) → bare g ≡ bare h
-    → bare (returned mem a told g) ≡ bare (returned other a told h)
-bare-returned mem other a told g h same = ap (λ (x : Hart). returned [] a told x) same
+    (mem other : Memory) (a : ℕ) (reported : Option ℕ) (g h : Hart) → bare g ≡ bare h
+    → bare (returned mem a reported g) ≡ bare (returned other a reported h)
+bare-returned mem other a reported g h same = ap (λ (x : Hart). returned [] a reported x) same
 
 bare-fated :
     (f : Fate) (mem other : Memory) (g h : Hart) → bare g ≡ bare h → bare (fated f mem g) ≡ bare (fated f other h)
@@ -72,14 +72,14 @@ bare-fated (Ends v) mem other g h same = ap (λ (x : Hart). fated (Ends v) [] x)
 bare-fated (Exits code) mem other g h same = same
 
 bare-woken :
-    (mem other : Memory) (told : Option ℕ) (us : List ℕ) (u : ℕ) (g h : Hart) → bare g ≡ bare h
-    → bare (woken_at mem told us u g) ≡ bare (woken_at other told us u h)
-bare-woken mem other told [] u g h same = same
-bare-woken mem other told (v ∷ us) u g h same =
-    bare-woken mem other told us u (cond (eqb v u) (returned mem 0 told g) g)
-    (cond (eqb v u) (returned other 0 told h) h)
-    (bare-cond (eqb v u) (returned mem 0 told g) (returned other 0 told h) g h
-    (bare-returned mem other 0 told g h same) same)
+    (mem other : Memory) (reported : Option ℕ) (us : List ℕ) (u : ℕ) (g h : Hart) → bare g ≡ bare h
+    → bare (woken_at mem reported us u g) ≡ bare (woken_at other reported us u h)
+bare-woken mem other reported [] u g h same = same
+bare-woken mem other reported (v ∷ us) u g h same =
+    bare-woken mem other reported us u (cond (eqb v u) (returned mem 0 reported g) g)
+    (cond (eqb v u) (returned other 0 reported h) h)
+    (bare-cond (eqb v u) (returned mem 0 reported g) (returned other 0 reported h) g h
+    (bare-returned mem other 0 reported g h same) same)
 
 bare-created :
     (mem other : Memory) (c : Option (ℕ × ℕ)) (n u : ℕ) (g h : Hart) → bare g ≡ bare h
@@ -107,7 +107,7 @@ bare-after e mem other r n u g h same =
     (bare-fated e.fate mem other (ran_at r u g) (ran_at r u h) ran) ran in
     bare-created mem other e.created n u (settled_at e mem r.thread u (ran_at r u g))
     (settled_at e other r.thread u (ran_at r u h))
-    (bare-woken mem other e.told e.woken u
+    (bare-woken mem other e.reported e.woken u
     (cond (eqb r.thread u) (fated e.fate mem (ran_at r u g)) (ran_at r u g))
     (cond (eqb r.thread u) (fated e.fate other (ran_at r u h)) (ran_at r u h)) called)
 
@@ -135,30 +135,30 @@ untouched-after e mem r n u h none =
     let called : cond (eqb r.thread u) (fated e.fate mem h) h ≡ h = rw own refl in
     uncreated-at mem e.created n u (settled_at e mem r.thread u (ran_at r u h)) old
     ∙ ap (settled_at e mem r.thread u) ran
-    ∙ ap (woken_at mem e.told e.woken u) called
-    ∙ woken_at-none mem e.told e.woken u h quiet
+    ∙ ap (woken_at mem e.reported e.woken u) called
+    ∙ woken_at-none mem e.reported e.woken u h quiet
 
 woken-stays_new :
-    (mem : Memory) (told : Option ℕ) (us : List ℕ) (u : ℕ) (h : Hart) → h.view ≡ mem
-    → (woken_at mem told us u h).view ≡ mem
-woken-stays_new mem told [] u h new = new
-woken-stays_new mem told (v ∷ us) u h new =
-    woken-stays_new mem told us u (cond (eqb v u) (returned mem 0 told h) h) (here (eqb v u))
+    (mem : Memory) (reported : Option ℕ) (us : List ℕ) (u : ℕ) (h : Hart) → h.view ≡ mem
+    → (woken_at mem reported us u h).view ≡ mem
+woken-stays_new mem reported [] u h new = new
+woken-stays_new mem reported (v ∷ us) u h new =
+    woken-stays_new mem reported us u (cond (eqb v u) (returned mem 0 reported h) h) (here (eqb v u))
   where
-    here : (b : Bool) → (cond b (returned mem 0 told h) h).view ≡ mem
+    here : (b : Bool) → (cond b (returned mem 0 reported h) h).view ≡ mem
     here true = refl
     here false = new
 
 woken-new :
-    (mem : Memory) (told : Option ℕ) (us : List ℕ) (u : ℕ) (h : Hart) → is_in u us ≡ true
-    → (woken_at mem told us u h).view ≡ mem
-woken-new mem told [] u h there = cc
-woken-new mem told (v ∷ us) u h there = here (woken-new mem told us u h) (eqb v u) there
+    (mem : Memory) (reported : Option ℕ) (us : List ℕ) (u : ℕ) (h : Hart) → is_in u us ≡ true
+    → (woken_at mem reported us u h).view ≡ mem
+woken-new mem reported [] u h there = cc
+woken-new mem reported (v ∷ us) u h there = here (woken-new mem reported us u h) (eqb v u) there
   where
     here :
-        (is_in u us ≡ true → (woken_at mem told us u h).view ≡ mem) → (b : Bool) → (b || is_in u us) ≡ true
-        → (woken_at mem told us u (cond b (returned mem 0 told h) h)).view ≡ mem
-    here later true h1 = woken-stays_new mem told us u (returned mem 0 told h) refl
+        (is_in u us ≡ true → (woken_at mem reported us u h).view ≡ mem) → (b : Bool) → (b || is_in u us) ≡ true
+        → (woken_at mem reported us u (cond b (returned mem 0 reported h) h)).view ≡ mem
+    here later true h1 = woken-stays_new mem reported us u (returned mem 0 reported h) refl
     here later false h1 = later h1
 
 -- a thread that an effect gives a view has it
@@ -222,14 +222,14 @@ touched-served e mem r n u h is none ready =
                       in-served_rest e r.thread n u
                       (or-in_left (is_in u e.woken) (is_in u (starting n e.created)) woke);
                   view =
-                      woken-new mem e.told e.woken u
+                      woken-new mem e.reported e.woken u
                       (cond (eqb r.thread u) (fated e.fate mem (ran_at r u h)) (ran_at r u h)) woke;
                 }
             | inr quiet ↦
                 let own : eqb r.thread u ≡ true =
                 here (eqb r.thread u) (is_in u e.woken) (is_in u (starting n e.created)) quiet old is in
                 let settled : settled_at e mem r.thread u (ran_at r u h) ≡ fated e.fate mem (ran_at r u h) =
-                woken_at-none mem e.told e.woken u
+                woken_at-none mem e.reported e.woken u
                 (cond (eqb r.thread u) (fated e.fate mem (ran_at r u h)) (ran_at r u h)) quiet ∙ rw own refl in
                 let served =
                 fated-served e.fate mem r.thread u (ran_at r u h) own none

@@ -122,9 +122,9 @@ front-swap reads m a rs b rest whole reading here fs front free =
     and-left (is_none (apply m a).ending && fits (apply m a) b) _ can in
     let later : can_apply_from (apply (apply m a) b) rest ≡ true =
     and-right (is_none (apply m a).ending && fits (apply m a) b) _ can in
-    let told : (fact_of reads (apply m a) b ∷ facts_from reads (apply (apply m a) b) rest) ≡ fs =
+    let reported : (fact_of reads (apply m a) b ∷ facts_from reads (apply (apply m a) b) rest) ≡ fs =
     sym (fit-facts reads (apply m a) b rest at_b) ∙ front.facts in
-    let free_b = rw (sym told) at free in
+    let free_b = rw (sym reported) at free in
     let pair : IsPair reads m a b =
     pair-from reads m a b whole none fit
     (and-left (is_none (apply m a).ending) (fits (apply m a) b) at_b)
@@ -150,7 +150,7 @@ front-swap reads m a rs b rest whole reading here fs front free =
           ∙ ap₂ (λ (f : Fact) (gs : List Fact). f ∷ gs) (fact_early reads m a b pair)
           (fit-facts reads (apply m b) a rest second
           ∙ ap₂ (λ (f : Fact) (gs : List Fact). f ∷ gs) (fact_late reads m a b pair) follow.1)
-          ∙ ap (set_second (fact_of reads m a)) told;
+          ∙ ap (set_second (fact_of reads m a)) reported;
       reading = (
         subst (λ (f : Frame). IsReading reads f b) (apply-frame m a) front.reading.0,
         (reading.0, subst (λ (f : Frame). AllByRecursion (IsReading reads f) rest) (apply-frame m a) front.reading.1),
@@ -175,14 +175,14 @@ front reads t (a ∷ rs) m whole reading can may =
     and-right (is_none m.ending && fits m a) (can_apply_from (apply m a) rs) can in
     let none : is_none m.ending ≡ true = and-left (is_none m.ending) (fits m a) here in
     let fit : fits m a ≡ true = and-right (is_none m.ending) (fits m a) here in
-    let told : facts_from reads m (a ∷ rs) ≡ fact_of reads m a ∷ facts_from reads (apply m a) rs =
+    let reported : facts_from reads m (a ∷ rs) ≡ fact_of reads m a ∷ facts_from reads (apply m a) rs =
     fit-facts reads m a rs here in
     subst (λ (fs : List Fact). IsFront reads m (a ∷ rs) (moved record_thread t (a ∷ rs)) (moved fact_thread t fs))
-    (sym told)
+    (sym reported)
     (go here later
     (front reads t rs (apply m a) (apply-whole m a whole (fits-can_step m a none fit))
     (reading-apply reads m a rs reading.1) later)
-    (eqb a.thread t) (rw told at may))
+    (eqb a.thread t) (rw reported at may))
   where
     second :
         (is_none m.ending && fits m a) ≡ true
@@ -235,13 +235,13 @@ every-first reads t s m rs [] fs whole front next keep full = absurd (full (sym 
 every-first reads t s m rs (b ∷ rest) fs whole front next keep full =
     let here : (is_none m.ending && fits m b) ≡ true = and-left (is_none m.ending && fits m b) _ front.following.can in
     let later : can_apply_from (apply m b) rest ≡ true = and-right (is_none m.ending && fits m b) _ front.following.can in
-    let told : fs ≡ fact_of reads m b ∷ facts_from reads (apply m b) rest =
+    let reported : fs ≡ fact_of reads m b ∷ facts_from reads (apply m b) rest =
     sym front.facts ∙ fit-facts reads m b rest here in
     let follow : IsFollowing reads (apply m b) rest (apply m b) (arranged s rest) =
     next (apply m b) rest
     (apply-whole m b whole
     (fits-can_step m b (and-left (is_none m.ending) (fits m b) here) (and-right (is_none m.ending) (fits m b) here)))
-    (reading-apply reads m b rest front.reading.1) later (rw told at keep) in
+    (reading-apply reads m b rest front.reading.1) later (rw reported at keep) in
     record {
       can = rw (here, follow.can) refl;
       alike =

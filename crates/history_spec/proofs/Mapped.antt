@@ -5,7 +5,7 @@ use Rattle.std.proofs.lemmas.List.Elements.{All-from_recursion}
 use Rattle.std.specs.List.{AllByRecursion}
 use Rattle.isa_spec.specs.Registers.{Registers}
 use Rattle.memory_spec.specs.Pages.{Mapped, Memory, slot_of, on_each, zero_page}
-use Rattle.memory_spec.specs.Stores.{StoredByte, laid}
+use Rattle.memory_spec.specs.Stores.{StoredByte, with_stores}
 use Rattle.memory_spec.specs.Workspace.{Masks, no_marks, mask_of, with_mark, marked, taken_at}
 use Rattle.thunk_spec.specs.Thunk.{Frame, thunk}
 use Rattle.thunk_spec.specs.Delta.{PageDelta, is_stored, chosen, delta_from, delta_of}
@@ -84,7 +84,7 @@ kept-delta f view regs =
     let long : length (marked f.map (on_each no_marks f.map) (thunk f view regs).stores) ≡ length f.map =
     length-marked f.map (on_each no_marks f.map) (thunk f view regs).stores ∙ length-on_each no_marks f.map in
     delta-below 0 (length f.map) (marked f.map (on_each no_marks f.map) (thunk f view regs).stores)
-    (laid f.map (on_each zero_page f.map) (thunk f view regs).stores) (omega arith)
+    (with_stores f.map (on_each zero_page f.map) (thunk f view regs).stores) (omega arith)
 
 -- the record of a thread's next step has its slots in the machine's map
 pub record-mapped : (m : Machine) (t : ℕ) → IsMappedIn (length m.frame.map) (record_of m t)

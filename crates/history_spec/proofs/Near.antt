@@ -79,9 +79,9 @@ plain-cond true x y g h same rest = same
 plain-cond false x y g h same rest = rest
 
 plain-returned :
-    (mem other : Memory) (a : ℕ) (told : Option ℕ) (g h : Hart) → plain g ≡ plain h
-    → plain (returned mem a told g) ≡ plain (returned other a told h)
-plain-returned mem other a told g h same = ap (λ (x : Hart). plain (returned [] a told x)) same
+    (mem other : Memory) (a : ℕ) (reported : Option ℕ) (g h : Hart) → plain g ≡ plain h
+    → plain (returned mem a reported g) ≡ plain (returned other a reported h)
+plain-returned mem other a reported g h same = ap (λ (x : Hart). plain (returned [] a reported x)) same
 
 plain-fated :
     (f : Fate) (mem other : Memory) (g h : Hart) → plain g ≡ plain h → plain (fated f mem g) ≡ plain (fated f other h)
@@ -91,14 +91,14 @@ plain-fated (Ends v) mem other g h same = ap (λ (x : Hart). plain (fated (Ends 
 plain-fated (Exits code) mem other g h same = same
 
 plain-woken :
-    (mem other : Memory) (told : Option ℕ) (us : List ℕ) (u : ℕ) (g h : Hart) → plain g ≡ plain h
-    → plain (woken_at mem told us u g) ≡ plain (woken_at other told us u h)
-plain-woken mem other told [] u g h same = same
-plain-woken mem other told (v ∷ us) u g h same =
-    plain-woken mem other told us u (cond (eqb v u) (returned mem 0 told g) g)
-    (cond (eqb v u) (returned other 0 told h) h)
-    (plain-cond (eqb v u) (returned mem 0 told g) (returned other 0 told h) g h
-    (plain-returned mem other 0 told g h same) same)
+    (mem other : Memory) (reported : Option ℕ) (us : List ℕ) (u : ℕ) (g h : Hart) → plain g ≡ plain h
+    → plain (woken_at mem reported us u g) ≡ plain (woken_at other reported us u h)
+plain-woken mem other reported [] u g h same = same
+plain-woken mem other reported (v ∷ us) u g h same =
+    plain-woken mem other reported us u (cond (eqb v u) (returned mem 0 reported g) g)
+    (cond (eqb v u) (returned other 0 reported h) h)
+    (plain-cond (eqb v u) (returned mem 0 reported g) (returned other 0 reported h) g h
+    (plain-returned mem other 0 reported g h same) same)
 
 plain-created :
     (mem other : Memory) (c : Option (ℕ × ℕ)) (n u : ℕ) (g h : Hart) → plain g ≡ plain h
@@ -124,7 +124,7 @@ plain-after e mem other r start kept n u g h same =
     plain-ran r start kept u g h same in
     plain-created mem other e.created n u (settled_at e mem r.thread u (ran_at (other_record r start kept) u g))
     (settled_at e other r.thread u (ran_at r u h))
-    (plain-woken mem other e.told e.woken u
+    (plain-woken mem other e.reported e.woken u
     (cond (eqb r.thread u) (fated e.fate mem (ran_at (other_record r start kept) u g))
     (ran_at (other_record r start kept) u g))
     (cond (eqb r.thread u) (fated e.fate other (ran_at r u h)) (ran_at r u h))
@@ -140,10 +140,10 @@ regs-cond true x y g h same rest = same
 regs-cond false x y g h same rest = rest
 
 regs-returned :
-    (mem other : Memory) (a : ℕ) (told : Option ℕ) (g h : Hart) → g.regs ≡ h.regs
-    → (returned mem a told g).regs ≡ (returned other a told h).regs
-regs-returned mem other a told g h same =
-    ap (λ (r : Registers). Rattle.machine_spec.specs.Performing.answered r a told) same
+    (mem other : Memory) (a : ℕ) (reported : Option ℕ) (g h : Hart) → g.regs ≡ h.regs
+    → (returned mem a reported g).regs ≡ (returned other a reported h).regs
+regs-returned mem other a reported g h same =
+    ap (λ (r : Registers). Rattle.machine_spec.specs.Performing.answered r a reported) same
 
 regs-fated :
     (f : Fate) (mem other : Memory) (g h : Hart) → g.regs ≡ h.regs → (fated f mem g).regs ≡ (fated f other h).regs
@@ -153,14 +153,14 @@ regs-fated (Ends v) mem other g h same = same
 regs-fated (Exits code) mem other g h same = same
 
 regs-woken :
-    (mem other : Memory) (told : Option ℕ) (us : List ℕ) (u : ℕ) (g h : Hart) → g.regs ≡ h.regs
-    → (woken_at mem told us u g).regs ≡ (woken_at other told us u h).regs
-regs-woken mem other told [] u g h same = same
-regs-woken mem other told (v ∷ us) u g h same =
-    regs-woken mem other told us u (cond (eqb v u) (returned mem 0 told g) g)
-    (cond (eqb v u) (returned other 0 told h) h)
-    (regs-cond (eqb v u) (returned mem 0 told g) (returned other 0 told h) g h
-    (regs-returned mem other 0 told g h same) same)
+    (mem other : Memory) (reported : Option ℕ) (us : List ℕ) (u : ℕ) (g h : Hart) → g.regs ≡ h.regs
+    → (woken_at mem reported us u g).regs ≡ (woken_at other reported us u h).regs
+regs-woken mem other reported [] u g h same = same
+regs-woken mem other reported (v ∷ us) u g h same =
+    regs-woken mem other reported us u (cond (eqb v u) (returned mem 0 reported g) g)
+    (cond (eqb v u) (returned other 0 reported h) h)
+    (regs-cond (eqb v u) (returned mem 0 reported g) (returned other 0 reported h) g h
+    (regs-returned mem other 0 reported g h same) same)
 
 regs-created :
     (mem other : Memory) (c : Option (ℕ × ℕ)) (n u : ℕ) (g h : Hart) → g.regs ≡ h.regs
@@ -176,7 +176,7 @@ regs-after :
 regs-after e mem other r q n u g h thread same =
     regs-created mem other e.created n u (settled_at e mem q.thread u (ran_at q u g))
     (settled_at e other r.thread u (ran_at r u h))
-    (regs-woken mem other e.told e.woken u
+    (regs-woken mem other e.reported e.woken u
     (cond (eqb q.thread u) (fated e.fate mem (ran_at q u g)) (ran_at q u g))
     (cond (eqb r.thread u) (fated e.fate other (ran_at r u h)) (ran_at r u h))
     (ap (λ (t : ℕ). (cond (eqb t u) (fated e.fate mem (ran_at q u g)) (ran_at q u g)).regs) thread

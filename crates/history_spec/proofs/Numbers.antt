@@ -43,12 +43,12 @@ number-fated (Ends v) memory h = refl
 number-fated (Exits code) memory h = refl
 
 number-woken :
-    (memory : Memory) (told : Option ℕ) (us : List ℕ) (hs : List Hart) (u : ℕ)
-    → (hart_in (woken memory told us hs) u).number ≡ (hart_in hs u).number
-number-woken memory told [] hs u = refl
-number-woken memory told (v ∷ us) hs u =
-    number-woken memory told us (set hs v (returned memory 0 told (hart_in hs v))) u
-    ∙ number-set hs v u (returned memory 0 told (hart_in hs v)) refl
+    (memory : Memory) (reported : Option ℕ) (us : List ℕ) (hs : List Hart) (u : ℕ)
+    → (hart_in (woken memory reported us hs) u).number ≡ (hart_in hs u).number
+number-woken memory reported [] hs u = refl
+number-woken memory reported (v ∷ us) hs u =
+    number-woken memory reported us (set hs v (returned memory 0 reported (hart_in hs v))) u
+    ∙ number-set hs v u (returned memory 0 reported (hart_in hs v)) refl
 
 -- who is created has made no step, as who isn't there
 number-pushed :
@@ -69,8 +69,8 @@ number-settled :
     (e : Effect) (memory : Memory) (t : ℕ) (hs : List Hart) (u : ℕ)
     → (hart_in (settled e memory t hs) u).number ≡ (hart_in hs u).number
 number-settled e memory t hs u =
-    number-created memory e.created (woken memory e.told e.woken (set hs t (fated e.fate memory (hart_in hs t)))) u
-    ∙ number-woken memory e.told e.woken (set hs t (fated e.fate memory (hart_in hs t))) u
+    number-created memory e.created (woken memory e.reported e.woken (set hs t (fated e.fate memory (hart_in hs t)))) u
+    ∙ number-woken memory e.reported e.woken (set hs t (fated e.fate memory (hart_in hs t))) u
     ∙ number-set hs t u (fated e.fate memory (hart_in hs t)) (number-fated e.fate memory (hart_in hs t))
 
 number-done :

@@ -3,4 +3,4 @@ pub mod Examples
 pub mod Equality
 pub mod Immediates
 pub mod Decoding
-pub mod Spelling
+pub mod WordOf

@@ -171,6 +171,6 @@ InRange instr.Ebreak = ⊤
 
 -- a word that encodes an instruction: its encoding; FENCE by any word of its opcode and funct3 (RISC-V unprivileged ISA
 -- 20191213, 2.7)
-abbrev pub Spells : ℕ → Instr → Type 0
-Spells w instr.Fence = (opcode_of w ≡ 0b0001111) × (funct3_of w ≡ 0b000)
-Spells w i = w ≡ encoding i
+abbrev pub IsWordOf : ℕ → Instr → Type 0
+IsWordOf w instr.Fence = (opcode_of w ≡ 0b0001111) × (funct3_of w ≡ 0b000)
+IsWordOf w i = w ≡ encoding i

@@ -8,7 +8,7 @@ ghost use Rattle.std.specs.Prelude.{◌≡◌, ℕ, ◌<◌, ◌^◌, Some};
 ghost use Rattle.std.specs.Bool.{Decides};
 ghost use Rattle.isa_spec.specs.Registers.{Registers, same_registers};
 ghost use Rattle.isa_spec.specs.Table.{decoded};
-ghost use Rattle.isa_spec.specs.Encoding.{encoding, InRange, Spells};
+ghost use Rattle.isa_spec.specs.Encoding.{encoding, InRange, IsWordOf};
 
 /// When a conditional branch is taken (RISC-V unprivileged ISA 20191213, 2.5).
 #[derive(Clone, Copy)]
@@ -258,7 +258,7 @@ pub fn decoding_inverts_encoding()
 /// range. A FENCE alone has several words: its other fields are free.
 #[inline(always)]
 pub fn decoded_was_encoded()
-    ensures { (w : ℕ) (i : Instr) → w < 2 ^ 32 → decoded w ≡ Some i → InRange i × Spells w i }
+    ensures { (w : ℕ) (i : Instr) → w < 2 ^ 32 → decoded w ≡ Some i → InRange i × IsWordOf w i }
 {}
 
 /// Registers compare as the same exactly if they are equal.

@@ -14,7 +14,7 @@ files_of files name = option_map (λ content. content.items) (get_by_text files 
 -- each kind for all names.
 abbrev pub memory_world : MemHost → World
 memory_world host = record {
-  tells = true;
+  is_stated = true;
   files = files_of host.files;
   printed = Some host.printed.items;
   asked = host.asked.names;

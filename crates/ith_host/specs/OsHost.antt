@@ -7,7 +7,7 @@ use Rattle.ith_host.specs.World.{World}
 -- names.
 abbrev pub os_world : {R : Type 0} → OsHost R → World
 os_world host = record {
-  tells = false;
+  is_stated = false;
   files = λ _. None;
   printed = None;
   asked = host.asked.names;

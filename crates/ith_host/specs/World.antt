@@ -2,11 +2,11 @@
 use Rattle.std.specs.Prelude.{◌≡◌, ◌≢◌, ℕ, ◌+◌, ◌-◌, ◌^◌, ◌≤◌, min, Bool, IsTrue, List, ◌++◌, take, Option, Some, IfSome}
 use Rattle.std.specs.Io.KnownBytes.{Appends}
 
--- The outside: whether what was written to it is known; the content of the file of each name, and the printed bytes, if
--- they are known; the names that reads requested, in order; how many reads and writes of each name failed, and how many
--- prints.
+-- The outside: whether it states what was written to it; the content of the file of each name, and the printed bytes,
+-- if they are stated; the names that reads requested, in order; how many reads and writes of each name failed, and how
+-- many prints.
 pub record World : Type 0 where
-  pub tells : Bool
+  pub is_stated : Bool
   pub files : List ℕ → Option (List ℕ)
   pub printed : Option (List ℕ)
   pub asked : List (List ℕ)
@@ -26,13 +26,13 @@ pub record NoneFell (before after : World) : Type 0 where
 
 -- The files and the printed bytes are as before.
 pub record Stays (before after : World) : Type 0 where
-  pub tells : after.tells ≡ before.tells
+  pub is_stated : after.is_stated ≡ before.is_stated
   pub files : after.files ≡ before.files
   pub printed : after.printed ≡ before.printed
 
 -- All files but that of one name, and the printed bytes, are as before.
 pub record StaysBut (name : List ℕ) (before after : World) : Type 0 where
-  pub tells : after.tells ≡ before.tells
+  pub is_stated : after.is_stated ≡ before.is_stated
   pub others : (other : List ℕ) → other ≢ name → after.files other ≡ before.files other
   pub printed : after.printed ≡ before.printed
 
@@ -44,13 +44,13 @@ AsksFor names before after = after.asked ≡ before.asked ++ names
 abbrev pub AsksNothing : World → World → Type 0
 AsksNothing before after = after.asked ≡ before.asked
 
--- The file of a name has this content, if it is known.
+-- The file of a name has this content, if its content is stated.
 abbrev pub IsContent : World → List ℕ → List ℕ → Type 0
-IsContent world name content = IfSome (world.files name) (λ told. told ≡ content)
+IsContent world name content = IfSome (world.files name) (λ stated. stated ≡ content)
 
--- The file of a name was made to hold this content, which is known if what was written to the world is.
+-- The file of a name was made to hold this content, and a world that states what was written to it states this.
 abbrev pub Holds : World → List ℕ → List ℕ → Type 0
-Holds world name content = IsTrue world.tells → world.files name ≡ Some content
+Holds world name content = IsTrue world.is_stated → world.files name ≡ Some content
 
 -- The first of the bytes, any number of them, were printed.
 abbrev pub PrintedSome : World → World → List ℕ → Type 0

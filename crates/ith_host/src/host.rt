@@ -71,7 +71,7 @@ pub trait Host {
         ensures written { result ≡ Put.Ok → Holds (world self.new) name.now bytes.now }
         ensures failed { result ≡ Put.Failed → Rose ((world self.old).write_faults name.now)
             ((world self.new).write_faults name.now) }
-        ensures untold { result ≡ Put.Failed → (world self.new).files name.now ≡ None }
+        ensures unstated { result ≡ Put.Failed → (world self.new).files name.now ≡ None }
         ensures memory { result ≡ Put.Memory → Stays (world self.old) (world self.new) }
         ensures others { StaysBut name.now (world self.old) (world self.new) }
         ensures asked { AsksNothing (world self.old) (world self.new) }
@@ -88,7 +88,7 @@ pub trait Host {
         ensures part { result ≡ Printed.Failed
             → PrintedSome (world self.old) (world self.new) bytes.now }
         ensures memory { result ≡ Printed.Memory → Stays (world self.old) (world self.new) }
-        ensures tells { (world self.new).tells ≡ (world self.old).tells }
+        ensures is_stated { (world self.new).is_stated ≡ (world self.old).is_stated }
         ensures files { (world self.new).files ≡ (world self.old).files }
         ensures asked { AsksNothing (world self.old) (world self.new) }
         ensures counts { NoneFell (world self.old) (world self.new) };

@@ -39,7 +39,7 @@ impl MemHost {
         part: u64,
     ) -> Self
         ensures world { memory_world result ≡ record {
-          tells = true;
+          is_stated = true;
           files = files_of files;
           printed = Some [];
           asked = [];
@@ -171,7 +171,7 @@ impl Host for MemHost {
         ensures failed { result ≡ Put.Failed
             → Rose ((memory_world self.old).write_faults name.now)
             ((memory_world self.new).write_faults name.now) }
-        ensures untold { result ≡ Put.Failed → (memory_world self.new).files name.now ≡ None }
+        ensures unstated { result ≡ Put.Failed → (memory_world self.new).files name.now ≡ None }
         ensures memory { result ≡ Put.Memory
             → Stays (memory_world self.old) (memory_world self.new) }
         ensures others { StaysBut name.now (memory_world self.old) (memory_world self.new) }
@@ -218,7 +218,7 @@ impl Host for MemHost {
             → PrintedSome (memory_world self.old) (memory_world self.new) bytes.now }
         ensures memory { result ≡ Printed.Memory
             → Stays (memory_world self.old) (memory_world self.new) }
-        ensures tells { (memory_world self.new).tells ≡ (memory_world self.old).tells }
+        ensures is_stated { (memory_world self.new).is_stated ≡ (memory_world self.old).is_stated }
         ensures files { (memory_world self.new).files ≡ (memory_world self.old).files }
         ensures asked { AsksNothing (memory_world self.old) (memory_world self.new) }
         ensures counts { NoneFell (memory_world self.old) (memory_world self.new) }

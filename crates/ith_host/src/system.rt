@@ -26,7 +26,7 @@ impl<'a, R> OsHost<'a, R> {
     /// The host of a runtime, with no faults so far.
     pub fn new(rt: &'a R) -> Self
         ensures { os_world result ≡ record {
-          tells = false;
+          is_stated = false;
           files = λ _. None;
           printed = None;
           asked = [];

@@ -44,10 +44,10 @@ pub lists_asked : (names : List Text) (a b : World) → AsksFor names a b → As
 lists_asked names a b asked = subst (λ (ns : List Text). AsksFor ns a b) (sym (names-named names)) asked
 
 -- a file is within a limit, where it holds what is
-pub within_told : (told : Option (List ℕ)) (bytes : List ℕ) (most : ℕ) → IfSome told (λ t. t ≡ bytes)
-    → length bytes ≤ most → IfSome told (λ t. length t ≤ most)
-within_told None bytes most is within = tt
-within_told (Some t) bytes most is within = rw is within
+pub within_reported : (reported : Option (List ℕ)) (bytes : List ℕ) (most : ℕ) → IfSome reported (λ t. t ≡ bytes)
+    → length bytes ≤ most → IfSome reported (λ t. length t ≤ most)
+within_reported None bytes most is within = tt
+within_reported (Some t) bytes most is within = rw is within
 
 pub lists_within : (a : World) (names : List Text) (lists : List (List ℕ)) → AreLists a names lists
     → All (IsWithin a) (lists_named names)
@@ -56,7 +56,7 @@ lists_within a [] (list ∷ lists) are = absurd are
 lists_within a (name ∷ names) [] are = absurd are
 lists_within a (name ∷ names) (list ∷ lists) are =
     All-cons (IsWithin a) (record { name = name; most = MOST_LIST_BYTES }) (lists_named names)
-    (within_told (a.files name) list MOST_LIST_BYTES are.0.0 are.0.1) (lists_within a names lists are.1)
+    (within_reported (a.files name) list MOST_LIST_BYTES are.0.0 are.0.1) (lists_within a names lists are.1)
 
 -- one file was asked for, and stops a line for a cause
 one_stops : (cause : Named → Type 0) (file : Named) (a b : World) → AsksForFiles (file ∷ []) a b → cause file

@@ -25,7 +25,7 @@ use Rattle.ith_top.specs.Statuses.{code_of}
 use Rattle.ith_top.specs.Files.{Named, StopsAt, FailedToRead, IsLong, files_named, lists_named, memo_named}
 use Rattle.ith_top.specs.Contents.{AreLists, ReplayContents, AreReplayContents, replay_setup_of, CanBeReplayed, IsMemoContent, IsMemoOf, as_rerun, as_show}
 use Rattle.ith_top.specs.Ends.{OfNone, IsUnkept, IsUnprinted, ScheduleRefusal, Token, Entry, Incomplete, RefusesSchedule, IsMemoRefused, IsRerunMemoRefused, IsRerunListRefused, IsReplayImageRefused, RefusesImage, RefusesList, TextEnds, EndsBy, RoundsEnd, ReplayEnds, AuditEnds, GenerateEnds, Answers}
-use Rattle.ith_top.specs.Completing.{AreTold, HasNoFault, AreAccepted, IsAcceptedMemo, AreRerunAccepted, IsReplayAccepted, IsCompleted, IsTold, IsListed, IsJudged, Completes}
+use Rattle.ith_top.specs.Completing.{AreStated, HasNoFault, AreAccepted, IsAcceptedMemo, AreRerunAccepted, IsReplayAccepted, IsCompleted, IsReported, IsListed, IsJudged, Completes}
 use Rattle.ith_top.proofs.Permitting.{first-permitted}
 
 none_there : (fact : Named → Type 0) (earlier : List Named) (file : Named) (later : List Named)
@@ -38,51 +38,51 @@ none_stops fact files a b none stops =
     none_there fact stops.earlier stops.file stops.later (subst (OfNone fact) stops.are none) stops.cause
 
 -- what a told file is said to hold, it holds
-content-told : (told : Option (List ℕ)) (bytes content : List ℕ) → told ≡ Some bytes → IfSome told (λ t. t ≡ content)
+content-reported : (reported : Option (List ℕ)) (bytes content : List ℕ) → reported ≡ Some bytes → IfSome reported (λ t. t ≡ content)
     → bytes ≡ content
-content-told told bytes content is says = let h =
+content-reported reported bytes content is says = let h =
     subst (λ (o : Option (List ℕ)). IfSome o (λ t. t ≡ content)) is says in h
 
-short-told : (told : Option (List ℕ)) (bytes : List ℕ) (most : ℕ) → told ≡ Some bytes → length bytes ≤ most
-    → IfSome told (λ t. most < length t) → ⊥
-short-told told bytes most is within long =
+short-reported : (reported : Option (List ℕ)) (bytes : List ℕ) (most : ℕ) → reported ≡ Some bytes → length bytes ≤ most
+    → IfSome reported (λ t. most < length t) → ⊥
+short-reported reported bytes most is within long =
     let h = subst (λ (o : Option (List ℕ)). IfSome o (λ t. most < length t)) is long in absurd (omega arith)
 
 -- the same of edit lists
-lists-told :
-    (before : World) (names : List Text) (told lists : List (List ℕ))
-    → AreTold before names told → AreLists before names lists → told ≡ lists
-lists-told before [] [] [] is says = refl
-lists-told before [] [] (list ∷ lists) is says = absurd says
-lists-told before [] (t ∷ told) lists is says = absurd is
-lists-told before (name ∷ names) [] lists is says = absurd is
-lists-told before (name ∷ names) (t ∷ told) [] is says = absurd says
-lists-told before (name ∷ names) (t ∷ told) (list ∷ lists) is says =
-    let first : t ≡ list = content-told (before.files name) t list is.0 says.0.0 in
-    let rest : told ≡ lists = lists-told before names told lists is.1 says.1 in
+lists-reported :
+    (before : World) (names : List Text) (reported lists : List (List ℕ))
+    → AreStated before names reported → AreLists before names lists → reported ≡ lists
+lists-reported before [] [] [] is says = refl
+lists-reported before [] [] (list ∷ lists) is says = absurd says
+lists-reported before [] (t ∷ reported) lists is says = absurd is
+lists-reported before (name ∷ names) [] lists is says = absurd is
+lists-reported before (name ∷ names) (t ∷ reported) [] is says = absurd says
+lists-reported before (name ∷ names) (t ∷ reported) (list ∷ lists) is says =
+    let first : t ≡ list = content-reported (before.files name) t list is.0 says.0.0 in
+    let rest : reported ≡ lists = lists-reported before names reported lists is.1 says.1 in
     rw (first, rest) refl
 
 lists-short :
-    (before : World) (names : List Text) (told : List (List ℕ))
-    → AreTold before names told → AreLists before names told → OfNone (IsLong before) (lists_named names)
-lists-short before [] told is within = tt
+    (before : World) (names : List Text) (reported : List (List ℕ))
+    → AreStated before names reported → AreLists before names reported → OfNone (IsLong before) (lists_named names)
+lists-short before [] reported is within = tt
 lists-short before (name ∷ names) [] is within = absurd is
-lists-short before (name ∷ names) (t ∷ told) is within =
-    (short-told (before.files name) t MOST_LIST_BYTES is.0 within.0.1, lists-short before names told is.1 within.1)
+lists-short before (name ∷ names) (t ∷ reported) is within =
+    (short-reported (before.files name) t MOST_LIST_BYTES is.0 within.0.1, lists-short before names reported is.1 within.1)
 
 -- no file is too long that is told to be within its limit
 run-short : (line : RunLine) (before : World) → AreAccepted line before
     → OfNone (IsLong before) (files_named (Runs line))
 run-short line before are = (
-  short-told (before.files line.elf) are.contents.elf MOST_ELF_BYTES are.elf are.read.contents.elf_within,
+  short-reported (before.files line.elf) are.contents.elf MOST_ELF_BYTES are.elf are.read.contents.elf_within,
   (
-    short-told (before.files line.input) are.contents.input MOST_INPUT_BYTES are.input are.read.contents.input_within,
+    short-reported (before.files line.input) are.contents.input MOST_INPUT_BYTES are.input are.read.contents.input_within,
     lists-short before line.edits are.contents.lists are.lists are.read.contents.lists,
   ),
 )
 
 memo-short : (name : Text) (before : World) → IsAcceptedMemo name before → IsLong before (memo_named name) → ⊥
-memo-short name before is = short-told (before.files name) is.memo MOST_MEMO_BYTES is.told is.read.within
+memo-short name before is = short-reported (before.files name) is.memo MOST_MEMO_BYTES is.stated is.read.within
 
 -- the only way in which writing or printing fails is by a fault
 unfailing :
@@ -107,7 +107,7 @@ unrefused :
     (name : Text) (before : World) (memo : List ℕ) (why : MemoRefusal)
     → IsAcceptedMemo name before → IsMemoContent before name memo → reading memo ≡ Err why → ⊥
 unrefused name before memo why is read refused =
-    let same : is.memo ≡ memo = content-told (before.files name) is.memo memo is.told read.content in
+    let same : is.memo ≡ memo = content-reported (before.files name) is.memo memo is.stated read.content in
     accepted-taken is.memo is.history why is.accepted (ap reading same ∙ refused)
 
 -- nothing stands in the way of a line of these files before anything is made for it: no file is too long that is told
@@ -160,17 +160,17 @@ run-free line before after are =
     record {
       takes_image = λ ends.
           let same : are.contents.elf ≡ ends.contents.elf =
-          content-told (before.files line.elf) are.contents.elf ends.contents.elf are.elf ends.read.elf in
+          content-reported (before.files line.elf) are.contents.elf ends.contents.elf are.elf ends.read.elf in
           let taken : is_image are.contents.elf ≡ true = are.read.accepted in
           let refused : is_image are.contents.elf ≡ false = ap is_image same ∙ ends.refused in
           absurd (cc);
       takes_memo = λ ends. ends;
       takes_lists = λ ends.
           let input : are.contents.input ≡ ends.contents.input =
-          content-told (before.files line.input) are.contents.input ends.contents.input are.input
+          content-reported (before.files line.input) are.contents.input ends.contents.input are.input
           ends.read.contents.input in
           let lists : are.contents.lists ≡ ends.contents.lists =
-          lists-told before line.edits are.contents.lists ends.contents.lists are.lists ends.read.contents.lists in
+          lists-reported before line.edits are.contents.lists ends.contents.lists are.lists ends.read.contents.lists in
           let edited : AreInputs ends.contents.input ends.contents.lists are.inputs =
           subst (λ (i : List ℕ). AreInputs i ends.contents.lists are.inputs) input
           (subst (λ (ls : List (List ℕ)). AreInputs are.contents.input ls are.inputs) lists are.edited) in
@@ -189,11 +189,11 @@ rerun-unlisted :
     (line : RerunLine) (before after : World) → AreRerunAccepted line before → IsRerunListRefused line before after → ⊥
 rerun-unlisted line before after are ends =
     let same : are.memo.memo ≡ ends.memo =
-    content-told (before.files line.memo) are.memo.memo ends.memo are.memo.told ends.read.content in
+    content-reported (before.files line.memo) are.memo.memo ends.memo are.memo.stated ends.read.content in
     let one : are.memo.history ≡ ends.history =
     one-memo are.memo.memo ends.memo are.memo.history ends.history same are.memo.accepted ends.accepted in
     let lists : are.lists ≡ ends.lists =
-    lists-told before line.edits are.lists ends.lists are.lists_told ends.lists_read in
+    lists-reported before line.edits are.lists ends.lists are.lists_stated ends.lists_read in
     let edited : AreRerunInputs ends.history.setup.input ends.lists are.inputs =
     subst (λ (h : History). AreRerunInputs h.setup.input ends.lists are.inputs) one
     (subst (λ (ls : List (List ℕ)). AreRerunInputs are.memo.history.setup.input ls are.inputs) lists are.edited) in
@@ -204,7 +204,7 @@ rerun-short : (line : RerunLine) (before : World) → AreRerunAccepted line befo
     → OfNone (IsLong before) (files_named (Reruns line))
 rerun-short line before are = (
   memo-short line.memo before are.memo,
-  lists-short before line.edits are.lists are.lists_told are.lists_read,
+  lists-short before line.edits are.lists are.lists_stated are.lists_read,
 )
 
 rerun-free :
@@ -252,11 +252,11 @@ schedule-unrefused setup text threads Incomplete can refused =
 replay-short : (line : ReplayLine) (before : World) → IsReplayAccepted line before
     → OfNone (IsLong before) (files_named (Replays line))
 replay-short line before are = (
-  short-told (before.files line.elf) are.contents.elf MOST_ELF_BYTES are.elf are.read.contents.elf_within,
+  short-reported (before.files line.elf) are.contents.elf MOST_ELF_BYTES are.elf are.read.contents.elf_within,
   (
-    short-told (before.files line.input) are.contents.input MOST_INPUT_BYTES are.input are.read.contents.input_within,
+    short-reported (before.files line.input) are.contents.input MOST_INPUT_BYTES are.input are.read.contents.input_within,
     (
-      short-told (before.files line.schedule) are.contents.schedule MOST_SCHEDULE_BYTES are.schedule
+      short-reported (before.files line.schedule) are.contents.schedule MOST_SCHEDULE_BYTES are.schedule
           are.read.contents.schedule_within,
       tt,
     ),
@@ -271,11 +271,11 @@ replay-same :
     (line : ReplayLine) (before : World) (are : IsReplayAccepted line before) (c : ReplayContents)
     → AreReplayContents before line c → are.contents ≡ c
 replay-same line before are c read =
-    let elf : are.contents.elf ≡ c.elf = content-told (before.files line.elf) are.contents.elf c.elf are.elf read.elf in
+    let elf : are.contents.elf ≡ c.elf = content-reported (before.files line.elf) are.contents.elf c.elf are.elf read.elf in
     let input : are.contents.input ≡ c.input =
-    content-told (before.files line.input) are.contents.input c.input are.input read.input in
+    content-reported (before.files line.input) are.contents.input c.input are.input read.input in
     let schedule : are.contents.schedule ≡ c.schedule =
-    content-told (before.files line.schedule) are.contents.schedule c.schedule are.schedule read.schedule in
+    content-reported (before.files line.schedule) are.contents.schedule c.schedule are.schedule read.schedule in
     ap (λ (l : List ℕ). with_contents l are.contents.input are.contents.schedule) elf
     ∙ ap (λ (l : List ℕ). with_contents c.elf l are.contents.schedule) input
     ∙ ap (with_contents c.elf c.input) schedule
@@ -303,7 +303,7 @@ replay-free line before after are =
 replayed :
     (line : ReplayLine) (before after : World) (answer : ℕ) (s : Status)
     → answer ≡ code_of s → ReplayEnds line before after s → IsReplayAccepted line before
-    → HasNoFault (Replays line) before after → IsTold answer
+    → HasNoFault (Replays line) before after → IsReported answer
 replayed line before after answer status.Finished is ends are none = inl is
 replayed line before after answer status.Unfinished is ends are none = inr (inl is)
 replayed line before after answer status.WriteFault is ends are none = absurd (none.prints ends.part.cause)
@@ -317,7 +317,7 @@ replayed line before after answer _ is ends are none = absurd ends
 
 generated :
     (line : GenerateLine) (before after : World) (answer : ℕ) (s : Status)
-    → answer ≡ code_of s → GenerateEnds line before after s → HasNoFault (Generates line) before after → IsTold answer
+    → answer ≡ code_of s → GenerateEnds line before after s → HasNoFault (Generates line) before after → IsReported answer
 generated line before after answer status.Finished is ends none = inl is
 generated line before after answer status.Unfinished is ends none = inr (inl is)
 generated line before after answer status.WriteFault is ends none = absurd (none.prints ends.part.cause)

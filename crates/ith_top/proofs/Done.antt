@@ -43,8 +43,8 @@ pub printed_and_kept :
     → Prints a b bytes → Keeps name content b c → PrintsAndKeeps (Some name) content a c bytes
 printed_and_kept name content a b c bytes prints keeps =
     record {
-      tells = keeps.tells ∙ prints.tells;
-      printed = subst (λ (told : Option (List ℕ)). Appends a.printed told bytes) (sym keeps.printed) prints.printed;
+      is_stated = keeps.is_stated ∙ prints.is_stated;
+      printed = subst (λ (reported : Option (List ℕ)). Appends a.printed reported bytes) (sym keeps.printed) prints.printed;
       written = keeps.written;
       others = λ other away. keeps.others other away
           ∙ ap (λ (files : Text → Option (List ℕ)). files other) prints.files;
@@ -55,7 +55,7 @@ pub printed_alone : (content : List ℕ) (a b : World) (bytes : List ℕ) → Pr
     → PrintsAndKeeps None content a b bytes
 printed_alone content a b bytes prints =
     record {
-      tells = prints.tells;
+      is_stated = prints.is_stated;
       printed = prints.printed;
       written = tt;
       others = λ other away. ap (λ (files : Text → Option (List ℕ)). files other) prints.files;
@@ -66,8 +66,8 @@ kept_after : (name : Option Text) (content : List ℕ) (a b c : World) (bytes : 
     → PrintsAndKeeps name content b c bytes → PrintsAndKeeps name content a c bytes
 kept_after name content a b c bytes stays keeps =
     record {
-      tells = keeps.tells ∙ stays.tells;
-      printed = subst (λ (told : Option (List ℕ)). Appends told c.printed bytes) stays.printed keeps.printed;
+      is_stated = keeps.is_stated ∙ stays.is_stated;
+      printed = subst (λ (reported : Option (List ℕ)). Appends reported c.printed bytes) stays.printed keeps.printed;
       written = keeps.written;
       others = λ other away. keeps.others other away ∙ ap (λ (files : Text → Option (List ℕ)). files other) stays.files;
     }
@@ -206,10 +206,10 @@ unkept line a b m c p found name status.WriteFault ready none are all later by p
       is_named = by;
       within = cause.within;
       cause = rose_before _ _ _ (ready.reads.counts.writes name) (rose_before _ _ _ (later.writes name) cause.cause);
-      tells = cause.tells ∙ printed.tells;
-      printed = subst (λ (told : Option (List ℕ)). Appends a.printed told (concat (texts_of p found)))
+      is_stated = cause.is_stated ∙ printed.is_stated;
+      printed = subst (λ (reported : Option (List ℕ)). Appends a.printed reported (concat (texts_of p found)))
           (sym cause.printed) printed.printed;
-      untold = cause.untold;
+      unstated = cause.unstated;
       others = λ other away. cause.others other away
           ∙ ap (λ (files : Text → Option (List ℕ)). files other) printed.files;
     })

@@ -17,7 +17,7 @@ use Rattle.ith_top.specs.Contents.{Contents, AreLists, AreContents, WasRead, IsM
 use Rattle.ith_top.specs.Ends.{SomeRead, EndsBy, EndsEarly, EndsLate, Ends}
 use Rattle.ith_top.specs.Refusals.{WhyUnread, WhyNoSetup, WhyNoHistory, WhyUnedited}
 use Rattle.ith_top.proofs.Worlds.{content_before, stays_trans}
-use Rattle.ith_top.proofs.Asking.{within_told, unbegun, unread_front, unread_more}
+use Rattle.ith_top.proofs.Asking.{within_reported, unbegun, unread_front, unread_more}
 use Rattle.ith_top.proofs.Going.{prints_then}
 
 -- a file of a given refusal isn't taken
@@ -63,7 +63,7 @@ pub input_unread :
     → WhyUnread (input_named input ∷ []) b c s → WhyUnread (elf_named elf ∷ input_named input ∷ []) a c s
 input_unread elf input a b c s bytes reads first within why =
     unread_more (elf_named elf ∷ []) (input_named input ∷ []) a b c s reads
-    (All-cons (IsWithin a) (elf_named elf) [] (within_told (a.files elf) bytes MOST_ELF_BYTES first within)
+    (All-cons (IsWithin a) (elf_named elf) [] (within_reported (a.files elf) bytes MOST_ELF_BYTES first within)
     (All-nil (IsWithin a)))
     why
 
@@ -84,9 +84,9 @@ pub others_unread :
 others_unread elf input more a b c s one other reads first within second shorter why =
     unread_more (elf_named elf ∷ input_named input ∷ []) more a b c s reads
     (All-cons (IsWithin a) (elf_named elf) (input_named input ∷ [])
-    (within_told (a.files elf) one MOST_ELF_BYTES first within)
+    (within_reported (a.files elf) one MOST_ELF_BYTES first within)
     (All-cons (IsWithin a) (input_named input) []
-    (within_told (a.files input) other MOST_INPUT_BYTES second shorter) (All-nil (IsWithin a))))
+    (within_reported (a.files input) other MOST_INPUT_BYTES second shorter) (All-nil (IsWithin a))))
     why
 
 -- the memo of a rerun wasn't read
@@ -102,7 +102,7 @@ pub rerun_list_unread :
 rerun_list_unread line a b c s memo reads read why =
     unread_more (memo_named line.memo ∷ []) (lists_named line.edits) a b c s reads
     (All-cons (IsWithin a) (memo_named line.memo) []
-    (within_told (a.files line.memo) memo MOST_MEMO_BYTES read.content read.within) (All-nil (IsWithin a)))
+    (within_reported (a.files line.memo) memo MOST_MEMO_BYTES read.content read.within) (All-nil (IsWithin a)))
     why
 
 -- a line of which files weren't all read ends so, whatever else is refused
@@ -132,19 +132,19 @@ pub forgotten_ends :
     (line : RerunLine) (a b : World) (memo : List ℕ) (lists : List (List ℕ)) (s : Status)
     → Reads (files_named (Reruns line)) a b → IsMemoContent a line.memo memo → AreLists a line.edits lists
     → WhyNoHistory memo s → EndsEarly (Reruns line) a b s
-forgotten_ends line a b memo lists status.Memo reads read told why =
+forgotten_ends line a b memo lists status.Memo reads read reported why =
     record {
       asked = reads.asked;
       memo = memo;
       read = read;
       lists = lists;
-      lists_read = told;
+      lists_read = reported;
       why = why.0;
       refused = why.1;
       stays = reads.stays;
     }
-forgotten_ends line a b memo lists status.Memory reads read told why = cut_ends (files_named (Reruns line)) a b reads
-forgotten_ends line a b memo lists _ reads read told why = absurd why
+forgotten_ends line a b memo lists status.Memory reads read reported why = cut_ends (files_named (Reruns line)) a b reads
+forgotten_ends line a b memo lists _ reads read reported why = absurd why
 
 -- the executable was accepted, and the edit lists made no inputs
 pub unedited_ends :
@@ -168,13 +168,13 @@ pub rerun_unedited_ends :
     (line : RerunLine) (a b : World) (memo : List ℕ) (lists : List (List ℕ)) (h : History) (s : Status)
     → Reads (files_named (Reruns line)) a b → IsMemoContent a line.memo memo → AreLists a line.edits lists
     → IsMemoOf memo h → WhyUnedited h.setup.input lists s → EndsEarly (Reruns line) a b s
-rerun_unedited_ends line a b memo lists h status.EditList reads read told is why =
+rerun_unedited_ends line a b memo lists h status.EditList reads read reported is why =
     record {
       asked = reads.asked;
       memo = memo;
       read = read;
       lists = lists;
-      lists_read = told;
+      lists_read = reported;
       history = h;
       accepted = is;
       place = why.0;
@@ -182,9 +182,9 @@ rerun_unedited_ends line a b memo lists h status.EditList reads read told is why
       refused = why.2;
       stays = reads.stays;
     }
-rerun_unedited_ends line a b memo lists h status.Memory reads read told is why =
+rerun_unedited_ends line a b memo lists h status.Memory reads read reported is why =
     cut_ends (files_named (Reruns line)) a b reads
-rerun_unedited_ends line a b memo lists h _ reads read told is why = absurd why
+rerun_unedited_ends line a b memo lists h _ reads read reported is why = absurd why
 
 -- the memo of a name was read, and no history was had from it
 pub unremembered :

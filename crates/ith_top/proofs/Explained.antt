@@ -22,11 +22,11 @@ use Rattle.ith_top.specs.Explaining.{explained_round, why_of}
 use Rattle.ith_top.specs.Ends.{Prints, HasReasons, text_of_reasons, IsExplained, EndsEarly, ExplainEnds, Ends}
 use Rattle.ith_top.specs.Counting.{ExplainSpends}
 use Rattle.ith_top.specs.Refusals.{WhyUnprinted}
-use Rattle.ith_top.specs.Playing.{plan_said, IsPrepared, IsWithNext, IsFirstRound, GivesReasons, TellsReasons}
+use Rattle.ith_top.specs.Playing.{plan_said, IsPrepared, IsWithNext, IsFirstRound, GivesReasons, ReportsReasons}
 use Rattle.ith_top.specs.declared.plan.Plan.{Plan as Planned}
 use Rattle.std.specs.Prelude.{Result, Ok, Err, IfOk}
 use Rattle.ith_top.proofs.Worlds.{stays_same}
-use Rattle.ith_top.proofs.OneText.{told, untold}
+use Rattle.ith_top.proofs.OneText.{reported, unstated}
 
 -- the host's memory ran out before a file was asked for
 pub explain_unasked : (line : ExplainLine) (a : World) → EndsEarly (Explains line) a a status.Memory
@@ -63,9 +63,9 @@ first_made p later s w on made =
     }
 
 -- the reasons of a round that one worker made are those of the round that is explained
-pub reasons_told :
-    (p : Plan) (w : RoundState) (text : List ℕ) → IsFirstRound p w → GivesReasons w text → TellsReasons p text
-reasons_told p w text one gives =
+pub reasons_reported :
+    (p : Plan) (w : RoundState) (text : List ℕ) → IsFirstRound p w → GivesReasons w text → ReportsReasons p text
+reasons_reported p w text one gives =
     let s : Setup = with_input p.beginning.setup one.input in
     let setup : w.setup ≡ s = alone-setup s p.beginning.past w one.is in
     let past : w.past ≡ p.beginning.past = alone-past s p.beginning.past w one.is in
@@ -104,15 +104,15 @@ one_input :
     (a : World) (name : Text) (lists : List (List ℕ)) (first : List ℕ) (inputs : List (List ℕ)) (input : List ℕ)
     (later : List (List ℕ))
     → AreLists a (name ∷ []) lists → AreRerunInputs first lists inputs → inputs ≡ input ∷ later → inputs ≡ input ∷ []
-one_input a name [] first inputs input later told edited is = absurd told
-one_input a name (list ∷ more ∷ lists) first inputs input later told edited is = absurd told.1
-one_input a name (list ∷ []) first [] input later told edited is = absurd edited
-one_input a name (list ∷ []) first (next ∷ other ∷ inputs) input later told edited is = absurd edited.1
-one_input a name (list ∷ []) first (next ∷ []) input later told edited is = let same : next ≡ input = cc in rw same refl
+one_input a name [] first inputs input later reported edited is = absurd reported
+one_input a name (list ∷ more ∷ lists) first inputs input later reported edited is = absurd reported.1
+one_input a name (list ∷ []) first [] input later reported edited is = absurd edited
+one_input a name (list ∷ []) first (next ∷ other ∷ inputs) input later reported edited is = absurd edited.1
+one_input a name (list ∷ []) first (next ∷ []) input later reported edited is = let same : next ≡ input = cc in rw same refl
 
 -- what the reasons of a line are
 explained_by : (line : ExplainLine) (a : World) (p : Plan) (text : List ℕ) → IsPlan (Explains line) a p
-    → TellsReasons p text → HasReasons line a
+    → ReportsReasons p text → HasReasons line a
 explained_by line a p text is tells =
     let h = is.history in
     let goes : GoesByOldRun p.beginning.past (with_input p.beginning.setup tells.input) =
@@ -138,16 +138,16 @@ explained_by line a p text is tells =
 -- how a line ends of whose round the reasons were told
 pub explained_ends :
     (line : ExplainLine) (a b c : World) (p : Plan) (text : List ℕ)
-    → IsPrepared (Explains line) a b p → TellsReasons p text → AsksNothing b c → Prints b c text → IsExplained line a c
+    → IsPrepared (Explains line) a b p → ReportsReasons p text → AsksNothing b c → Prints b c text → IsExplained line a c
 unfolding explained_by
 explained_ends line a b c p text ready tells none prints =
-    told (Explains line) (HasReasons line a) (text_of_reasons line a) (explained_by line a p text ready.is tells) a b c
+    reported (Explains line) (HasReasons line a) (text_of_reasons line a) (explained_by line a p text ready.is tells) a b c
     ready.reads none (subst (Prints b c) tells.is_text prints)
 
 -- and the counter rose by the turns of its executed steps
 pub explained_spent :
     (line : ExplainLine) (a b c : World) (p : Plan) (text : List ℕ) (before after : ℕ)
-    → IsPrepared (Explains line) a b p → TellsReasons p text → AsksNothing b c → Prints b c text
+    → IsPrepared (Explains line) a b p → ReportsReasons p text → AsksNothing b c → Prints b c text
     → ((input : List ℕ) (later : List (List ℕ)) → p.inputs ≡ input ∷ later
     → after ≡ before + executed_by (explained_round p.beginning input))
     → ExplainSpends line a c before after status.Finished
@@ -158,10 +158,10 @@ explained_spent line a b c p text before after ready tells none prints cost =
 -- it wasn't told whole
 pub unexplained :
     (line : ExplainLine) (a b c : World) (p : Plan) (text : List ℕ) (s : Status)
-    → IsPrepared (Explains line) a b p → TellsReasons p text → AsksNothing b c → WhyUnprinted text b c s
+    → IsPrepared (Explains line) a b p → ReportsReasons p text → AsksNothing b c → WhyUnprinted text b c s
     → Ends (Some (Explains line)) a c s
 unfolding explained_by
 unexplained line a b c p text s ready tells none why =
-    untold (Explains line) (HasReasons line a) (text_of_reasons line a) (explained_by line a p text ready.is tells)
+    unstated (Explains line) (HasReasons line a) (text_of_reasons line a) (explained_by line a p text ready.is tells)
     (λ s. ExplainEnds line a c s) a b c s ready.reads none (λ part. part)
     (subst (λ (l : List ℕ). WhyUnprinted l b c s) tells.is_text why)

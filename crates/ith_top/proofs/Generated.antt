@@ -31,7 +31,7 @@ use Rattle.ith_top.specs.Rounds.{rounds_of}
 use Rattle.ith_top.specs.Refusals.{WhyUnprinted}
 use Rattle.ith_top.specs.Counting.{Work, IsCounted, turns_for, MakesRounds, SpendsTurns, GenerateSpends}
 use Rattle.ith_top.specs.Playing.{AreFound, AreTheGenerated, CanBePlayed, CanBeEncoded, IsMadeOn}
-use Rattle.ith_top.specs.declared.report.Telling.TheVariants as telling
+use Rattle.ith_top.specs.declared.report.Form.TheVariants as form
 use Rattle.ith_top.proofs.Worlds.{stays_same, none_fell_same}
 use Rattle.ith_top.proofs.Asking.{unbegun}
 use Rattle.ith_top.proofs.Going.{in_part}
@@ -164,13 +164,13 @@ record TwoRounds (workers : ℕ) (s : Setup) (input next : List ℕ) (t u : ℕ)
 two_rounds :
     (workers : ℕ) (s : Setup) (input next : List ℕ) (t u o : ℕ) (one other : List ℕ) (exit ended : Bool)
     (after last : Beginning)
-    → IsMadeOn workers telling.Line (from_scratch s nothing_asked) input t u one exit after
-    → IsMadeOn workers telling.Line after next u o other ended last
+    → IsMadeOn workers form.Line (from_scratch s nothing_asked) input t u one exit after
+    → IsMadeOn workers form.Line after next u o other ended last
     → TwoRounds workers s input next t o one other exit ended
 two_rounds workers s input next t u o one other exit ended after last on on_next =
     let f = on.found in
-    let on_second : IsMadeOn workers telling.Line (after_round (from_scratch s nothing_asked) input f) next u o other ended last =
-    subst (λ (b : Beginning). IsMadeOn workers telling.Line b next u o other ended last) on.is_next on_next in
+    let on_second : IsMadeOn workers form.Line (after_round (from_scratch s nothing_asked) input f) next u o other ended last =
+    subst (λ (b : Beginning). IsMadeOn workers form.Line b next u o other ended last) on.is_next on_next in
     let first : Round = round_on (from_scratch s nothing_asked) input f in
     let second : Round = round_on (after_round (from_scratch s nothing_asked) input f) next on_second.found in
     record {
@@ -197,20 +197,20 @@ pub both_generated :
     (workers number : ℕ) (p : Plan) (input next : List ℕ) (rest : List (List ℕ)) (one other text : List ℕ)
     (exit ended exits : Bool) (after last : Beginning) (earlier between later : Work)
     → later.rounds ≡ earlier.rounds + 2 → IsGeneratedPlan number p → CanBePlayed p → CanBeEncoded p → p.inputs ≡ input ∷ next ∷ rest
-    → IsMadeOn workers telling.Line p.beginning input earlier.turns between.turns one exit after
-    → IsMadeOn workers telling.Line after next between.turns later.turns other ended last
+    → IsMadeOn workers form.Line p.beginning input earlier.turns between.turns one exit after
+    → IsMadeOn workers form.Line after next between.turns later.turns other ended last
     → text ≡ text_line (codes "gen") (decimal number) ++ one ++ other
     → exits ≡ (exit && ended)
     → AreTheGenerated workers number earlier later text exits
 unfolding all_made_exit
-both_generated workers number p input next rest one other text exit ended exits after last earlier between later rise is playable encoded inputs on on_next told ends =
+both_generated workers number p input next rest one other text exit ended exits after last earlier between later rise is playable encoded inputs on on_next reported ends =
     let s : Setup = p.beginning.setup in
     let begins : p.beginning ≡ from_scratch s nothing_asked =
     is.beginning ∙ ap (λ (t : Setup). from_scratch t nothing_asked) (sym (ap (λ (b : Beginning). b.setup) is.beginning)) in
     let all : p.inputs ≡ input ∷ next ∷ [] = one_more _ _ input next rest p.inputs inputs is.edited in
     let two : TwoRounds workers s input next earlier.turns later.turns one other exit ended =
     two_rounds workers s input next earlier.turns between.turns later.turns one other exit ended after last
-    (subst (λ (b : Beginning). IsMadeOn workers telling.Line b input earlier.turns between.turns one exit after) begins on)
+    (subst (λ (b : Beginning). IsMadeOn workers form.Line b input earlier.turns between.turns one exit after) begins on)
     on_next in
     let rounds : rounds_of p two.found ≡ two.first ∷ two.second ∷ [] =
     ap (λ (l : List (List ℕ)). rounds_after p.beginning l two.found) all
@@ -238,7 +238,7 @@ both_generated workers number p input next rest one other text exit ended exits 
       all = two.count ∙ sym count;
       rounds = let found = two.count in omega arith;
       turns = two.turns;
-      is_text = told
+      is_text = reported
           ∙ append_assoc (text_line (codes "gen") (decimal number)) one other
           ∙ ap (λ (l : List ℕ). text_line (codes "gen") (decimal number) ++ l)
           (two.lines

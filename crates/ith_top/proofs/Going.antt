@@ -13,7 +13,7 @@ use Rattle.rerun_spec.specs.Inputs.{AreShort}
 use Rattle.rerun_spec.specs.Rounds.{Found, Round, Beginning, IsMade, IsWatched, round_on, after_round, rounds_after, after_rounds, history_at}
 use Rattle.rerun_spec.specs.Reports.{made_report, made_reports, made_exits, all_made_exit}
 use Rattle.ith_host.specs.World.{World, NoneFell, Stays, AsksNothing}
-use Rattle.ith_top.specs.declared.report.Telling.TheVariants as telling
+use Rattle.ith_top.specs.declared.report.Form.TheVariants as form
 use Rattle.ith_top.specs.declared.status.Status.{Status}
 use Rattle.ith_top.specs.declared.status.Status.TheVariants as status
 use Rattle.ith_top.specs.Ends.{Prints, IsPrintedInPart}
@@ -41,7 +41,7 @@ pub record IsGoing (b : Beginning) (workers : ℕ) (inputs : List (List ℕ)) (a
   pub counts : NoneFell a w
   pub asked : AsksNothing a w
 
-appends-none : (told : Option (List ℕ)) → Appends told told []
+appends-none : (reported : Option (List ℕ)) → Appends reported reported []
 appends-none None = tt
 appends-none (Some bytes) = sym (append-nil bytes)
 
@@ -54,12 +54,12 @@ appends-both (Some x) (Some y) (Some z) one other first second = second ∙ ap (
     ∙ append_assoc x one other
 
 prints_none : (a : World) → Prints a a []
-prints_none a = record { tells = refl; files = refl; printed = appends-none a.printed }
+prints_none a = record { is_stated = refl; files = refl; printed = appends-none a.printed }
 
 prints_both : (a b c : World) (one other : List ℕ) → Prints a b one → Prints b c other → Prints a c (one ++ other)
 prints_both a b c one other first second =
     record {
-      tells = second.tells ∙ first.tells;
+      is_stated = second.is_stated ∙ first.is_stated;
       files = second.files ∙ first.files;
       printed = appends-both a.printed b.printed c.printed one other first.printed second.printed;
     }
@@ -68,18 +68,18 @@ prints_both a b c one other first second =
 pub prints_then : (a b c : World) (bytes : List ℕ) → Prints a b bytes → Stays b c → Prints a c bytes
 prints_then a b c bytes prints stays =
     record {
-      tells = stays.tells ∙ prints.tells;
+      is_stated = stays.is_stated ∙ prints.is_stated;
       files = stays.files ∙ prints.files;
-      printed = subst (λ (told : Option (List ℕ)). Appends a.printed told bytes) (sym stays.printed) prints.printed;
+      printed = subst (λ (reported : Option (List ℕ)). Appends a.printed reported bytes) (sym stays.printed) prints.printed;
     }
 
 -- printing after a change that leaves files and printed bytes
 pub prints_after : (a b c : World) (bytes : List ℕ) → Stays a b → Prints b c bytes → Prints a c bytes
 prints_after a b c bytes stays prints =
     record {
-      tells = prints.tells ∙ stays.tells;
+      is_stated = prints.is_stated ∙ stays.is_stated;
       files = prints.files ∙ stays.files;
-      printed = subst (λ (told : Option (List ℕ)). Appends told c.printed bytes) stays.printed prints.printed;
+      printed = subst (λ (reported : Option (List ℕ)). Appends reported c.printed bytes) stays.printed prints.printed;
     }
 
 -- a text wasn't printed whole
@@ -246,7 +246,7 @@ pub going_next :
     (b : Beginning) (workers : ℕ) (inputs : List (List ℕ)) (a w v : World) (t u o : ℕ) (now next : Beginning)
     (input : List ℕ) (rest : List (List ℕ)) (exit : Bool) (text : List ℕ) (ended : Bool)
     → IsGoing b workers inputs a w t u now (input ∷ rest) exit
-    → IsMadeOn workers telling.Report now input u o text ended next
+    → IsMadeOn workers form.Report now input u o text ended next
     → Prints w v text → NoneFell w v → AsksNothing w v
     → IsGoing b workers inputs a v t o next rest (exit && ended)
 going_next b workers inputs a w v t u o now next input rest exit text ended going one prints counts asked =
@@ -344,7 +344,7 @@ pub going_unprinted :
     (input : List ℕ) (rest : List (List ℕ)) (exit : Bool) (text : List ℕ) (ended : Bool) (next : Beginning)
     (earlier later : Work) (why : Status)
     → IsGoing b workers inputs a w t u now (input ∷ rest) exit
-    → IsMadeOn workers telling.Report now input u o text ended next
+    → IsMadeOn workers form.Report now input u o text ended next
     → later.rounds + length (input ∷ rest) ≤ earlier.rounds + length inputs + 1
     → later.rounds ≤ earlier.rounds + length inputs
     → WhyUnprinted text w v why → IsPlayedInPart workers (of_line b inputs) a v earlier later why

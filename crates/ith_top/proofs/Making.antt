@@ -21,9 +21,9 @@ use Rattle.rerun_spec.proofs.Ending.{left-own}
 use Rattle.round_report.specs.Short.{short_text}
 use Rattle.rerun_workers.specs.Making.{IsCostOf}
 use Rattle.ith_top.specs.Counting.{IsCounted}
-use Rattle.ith_top.specs.Playing.{text_by, told_by, IsMadeOn}
-use Rattle.ith_top.specs.declared.report.Telling.{Telling}
-use Rattle.ith_top.specs.declared.report.Telling.TheVariants as telling
+use Rattle.ith_top.specs.Playing.{text_by, round_text_by, IsMadeOn}
+use Rattle.ith_top.specs.declared.report.Form.{Form}
+use Rattle.ith_top.specs.declared.report.Form.TheVariants as form
 
 -- what is told of a round, part by part
 abbrev data_of : Machine → List Entry → Extras → List Record → List ℕ → ReportData
@@ -62,10 +62,10 @@ alike_of r w setup past entries by =
       past = round-past r.setup r.past (events_in r.found.entries) ∙ sym past;
     }
 
-alike-told :
+alike-reported :
     (r : Round) (w : RoundState) (extras : Extras) (worker_steps : List ℕ)
     → IsAlike r w → data_as_made w extras worker_steps ≡ data_as_made (made r) extras worker_steps
-alike-told r w extras worker_steps alike =
+alike-reported r w extras worker_steps alike =
     ap (λ (m : Machine). data_of m w.schedule extras w.records worker_steps) (sym alike.machine)
     ∙ ap (λ (es : List Entry). data_of (made r).machine es extras w.records worker_steps) (sym alike.schedule)
     ∙ ap (λ (rs : List Record). data_of (made r).machine (made r).schedule extras rs worker_steps) (sym alike.records)
@@ -99,20 +99,20 @@ alike-cost workers r w alike cost =
 
 -- and so is the text that tells of it
 alike-text :
-    (way : Telling) (r : Round) (w : RoundState) (text : List ℕ) → IsAlike r w
+    (way : Form) (r : Round) (w : RoundState) (text : List ℕ) → IsAlike r w
     → text ≡ text_by way r.number (data_as_made w (extras_of r.asked w.past w.setup r.found.progress) r.found.worker_steps)
-    → text ≡ told_by way r
+    → text ≡ round_text_by way r
 unfolding short_text
-alike-text telling.Report r w text alike is =
+alike-text form.Report r w text alike is =
     is
     ∙ ap (λ (e : Extras). report_text r.number (data_as_made w e r.found.worker_steps)) (alike-extras r w alike)
-    ∙ ap (report_text r.number) (alike-told r w (made_extras r) r.found.worker_steps alike)
-alike-text telling.Line r w text alike is =
-    is ∙ ap (short_text r.number) (alike-told r w no_extras r.found.worker_steps alike)
+    ∙ ap (report_text r.number) (alike-reported r w (made_extras r) r.found.worker_steps alike)
+alike-text form.Line r w text alike is =
+    is ∙ ap (short_text r.number) (alike-reported r w no_extras r.found.worker_steps alike)
 
 -- what workers made of a round, its text, its end and what it leaves
 pub made_on :
-    (workers : ℕ) (way : Telling) (b : Beginning) (input : List ℕ) (w : RoundState) (f : Found) (t u : ℕ) (text : List ℕ)
+    (workers : ℕ) (way : Form) (b : Beginning) (input : List ℕ) (w : RoundState) (f : Found) (t u : ℕ) (text : List ℕ)
     (exit : Bool) (next : Beginning)
     → w.setup ≡ with_input b.setup input → w.past ≡ b.past → IsBySchedule w → f.entries ≡ w.schedule
     → IsMadeBy workers (with_input b.setup input) b.past w.schedule f.worker_steps
@@ -157,7 +157,7 @@ round_map b input w setup past is =
 
 -- and leaves a history of it
 pub left_map :
-    (workers : ℕ) (way : Telling) (b : Beginning) (input : List ℕ) (t u : ℕ) (text : List ℕ) (exit : Bool) (next : Beginning)
+    (workers : ℕ) (way : Form) (b : Beginning) (input : List ℕ) (t u : ℕ) (text : List ℕ) (exit : Bool) (next : Beginning)
     → IsMadeOn workers way b input t u text exit next → IsOfMap next.past next.setup
 left_map workers way b input t u text exit next on =
     let r = round_on b input on.found in

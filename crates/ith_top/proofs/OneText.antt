@@ -22,19 +22,19 @@ abbrev pub has_verdict : (name : Text) (place : Option ℕ) (a : World) (h : His
 has_verdict name place a h is verdict = record { history = h; remembered = is; verdict = verdict }
 
 -- the text was printed
-abbrev pub told :
+abbrev pub reported :
     (line : Line) (Has : Type 0) (text : Has → List ℕ) (has : Has) (a b c : World)
     → Reads (files_named line) a b → AsksNothing b c → Prints b c (text has) → PrintsText line Has text a c
-told line Has text has a b c reads none prints =
+reported line Has text has a b c reads none prints =
     record { asked = none ∙ reads.asked; has = has; prints = prints_after a b c (text has) reads.stays prints }
 
 -- it wasn't printed whole
-pub untold :
+pub unstated :
     (line : Line) (Has : Type 0) (text : Has → List ℕ) (has : Has) (Late : Status → Type 0) (a b c : World) (s : Status)
     → Reads (files_named line) a b → AsksNothing b c
     → (PrintsTextInPart line Has text a c → Late status.WriteFault)
     → WhyUnprinted (text has) b c s → EndsEarly line a c s ⊎ Late s
-untold line Has text has Late a b c status.WriteFault reads none late why =
+unstated line Has text has Late a b c status.WriteFault reads none late why =
     inr
     (late
     (record {
@@ -42,6 +42,6 @@ untold line Has text has Late a b c status.WriteFault reads none late why =
       has = has;
       part = in_part (text has) a b c reads.stays reads.counts why;
     }))
-untold line Has text has Late a b c status.Memory reads none late why =
+unstated line Has text has Late a b c status.Memory reads none late why =
     inl (unbegun (files_named line) a c (none ∙ reads.asked) (stays_trans a b c reads.stays why))
-untold line Has text has Late a b c _ reads none late why = absurd why
+unstated line Has text has Late a b c _ reads none late why = absurd why

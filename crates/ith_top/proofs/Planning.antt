@@ -98,12 +98,12 @@ pub rerun_plan :
     → IsMemoContent a line.memo memo → AreLists a line.edits lists → IsMemoOf memo h
     → p.beginning ≡ after_memo h (limits_for line h) (asked_by line.reach line.progress)
     → AreRerunInputs h.setup.input lists p.inputs → IsRerunPlan line a p
-rerun_plan line a memo lists h p read told is begins edited =
+rerun_plan line a memo lists h p read reported is begins edited =
     record {
       memo = memo;
       read = read;
       lists = lists;
-      lists_read = told;
+      lists_read = reported;
       history = h;
       accepted = is;
       beginning = begins;

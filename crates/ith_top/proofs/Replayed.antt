@@ -25,11 +25,11 @@ use Rattle.ith_top.specs.Contents.{ReplayContents, AreReplayContents, replay_set
 use Rattle.ith_top.specs.Ends.{Prints, HasReplay, Token, RefusesSchedule, text_of_replay, IsReplayed, EndsEarly, ReplayEnds, Ends}
 use Rattle.ith_top.specs.Counting.{turns_of_replay, ReplaySpends}
 use Rattle.ith_top.specs.Refusals.{WhyNoSetup, WhyNoThreads, WhyUnreplayed, WhyUnprinted}
-use Rattle.ith_top.specs.Playing.{IsAskedReplay, TellsOfReplay}
+use Rattle.ith_top.specs.Playing.{IsAskedReplay, ReportsReplay}
 use Rattle.ith_top.proofs.Worlds.{content_before, reads_then}
 use Rattle.ith_top.proofs.Going.{prints_after}
 use Rattle.ith_top.proofs.Ending.{cut_ends}
-use Rattle.ith_top.proofs.OneText.{untold}
+use Rattle.ith_top.proofs.OneText.{unstated}
 use Rattle.ith_top.proofs.Permitting.{executed-turns, executed-threads}
 
 -- all files were read
@@ -87,8 +87,8 @@ replay_endless line a b c setup text status.Memory is quiet why =
 replay_endless line a b c setup text _ is quiet why = absurd why
 
 -- what there is to tell of a replay, part by part
-abbrev telling : List Executed → Option End → ℕ → Memory → List ℕ → ReportData
-telling entries ending instructions memory output =
+abbrev form : List Executed → Option End → ℕ → Memory → List ℕ → ReportData
+form entries ending instructions memory output =
     record {
       ending = ending;
       schedule = entries;
@@ -100,24 +100,24 @@ telling entries ending instructions memory output =
     }
 
 -- what a schedule came to is told as the machine from scratch is
-pub replay_told :
+pub replay_reported :
     (setup : Setup) (threads text : List ℕ) (o : Outcome)
-    → IsOutcomeOf setup threads o → TellsOfReplay threads o text → text ≡ replay_of setup threads
-replay_told setup threads text o is tells =
+    → IsOutcomeOf setup threads o → ReportsReplay threads o text → text ≡ replay_of setup threads
+replay_reported setup threads text o is tells =
     let entries = all_executed threads in
-    let told : ReportData = data_of setup entries no_extras [] in
+    let reported : ReportData = data_of setup entries no_extras [] in
     let machine : scratch setup threads ≡ scratch setup (threads_of entries) =
     ap (scratch setup) (sym (executed-threads threads)) in
-    let ending : Some o.ending ≡ told.ending = sym is.ending ∙ ap (λ (m : Machine). m.ending) machine in
-    let turns : o.instructions ≡ told.instructions =
+    let ending : Some o.ending ≡ reported.ending = sym is.ending ∙ ap (λ (m : Machine). m.ending) machine in
+    let turns : o.instructions ≡ reported.instructions =
     is.instructions ∙ sym (executed-turns (first setup) threads) in
-    let memory : o.memory ≡ told.memory = is.memory ∙ ap (λ (m : Machine). m.memory) machine in
-    let output : o.output.items ≡ told.output = is.output ∙ ap (λ (m : Machine). m.output) machine in
+    let memory : o.memory ≡ reported.memory = is.memory ∙ ap (λ (m : Machine). m.memory) machine in
+    let output : o.output.items ≡ reported.output = is.output ∙ ap (λ (m : Machine). m.output) machine in
     tells
-    ∙ ap (λ (e : Option End). replay_text (telling entries e o.instructions o.memory o.output.items)) ending
-    ∙ ap (λ (n : ℕ). replay_text (telling entries told.ending n o.memory o.output.items)) turns
-    ∙ ap (λ (m : Memory). replay_text (telling entries told.ending told.instructions m o.output.items)) memory
-    ∙ ap (λ (l : List ℕ). replay_text (telling entries told.ending told.instructions told.memory l)) output
+    ∙ ap (λ (e : Option End). replay_text (form entries e o.instructions o.memory o.output.items)) ending
+    ∙ ap (λ (n : ℕ). replay_text (form entries reported.ending n o.memory o.output.items)) turns
+    ∙ ap (λ (m : Memory). replay_text (form entries reported.ending reported.instructions m o.output.items)) memory
+    ∙ ap (λ (l : List ℕ). replay_text (form entries reported.ending reported.instructions reported.memory l)) output
 
 -- what was replayed
 record IsReplay (line : ReplayLine) (a : World) (has : HasReplay line a) (o : Outcome) (text : List ℕ) : Type 0 where
@@ -127,7 +127,7 @@ record IsReplay (line : ReplayLine) (a : World) (has : HasReplay line a) (o : Ou
 has_replay :
     (line : ReplayLine) (a b : World) (setup : Setup) (said threads text : List ℕ) (o : Outcome)
     → IsAskedReplay line a b setup said → Says said (Ok threads) → IsOutcomeOf setup threads o
-    → TellsOfReplay threads o text → (has : HasReplay line a) × IsReplay line a has o text
+    → ReportsReplay threads o text → (has : HasReplay line a) × IsReplay line a has o text
 has_replay line a b setup said threads text o is says of tells =
     let whole : IsOutcomeOf (replay_setup_of line is.contents) threads o =
     subst (λ (s : Setup). IsOutcomeOf s threads o) is.is_setup of in (
@@ -141,7 +141,7 @@ has_replay line a b setup said threads text o is says of tells =
           complete = whole.complete;
         };
       },
-      record { of = whole; is_text = replay_told (replay_setup_of line is.contents) threads text o whole tells },
+      record { of = whole; is_text = replay_reported (replay_setup_of line is.contents) threads text o whole tells },
     )
 
 -- it was told, and the counter rose by the turns of its steps
@@ -149,7 +149,7 @@ replayed :
     (line : ReplayLine) (a b d c : World) (setup : Setup) (said threads text : List ℕ) (o : Outcome) (exits : Bool)
     (before after : ℕ)
     → IsAskedReplay line a b setup said → Quiet b d → Says said (Ok threads) → IsOutcomeOf setup threads o
-    → TellsOfReplay threads o text → AsksNothing d c → Prints d c text → is_exit (Some o.ending) ≡ exits
+    → ReportsReplay threads o text → AsksNothing d c → Prints d c text → is_exit (Some o.ending) ≡ exits
     → after ≡ before + o.instructions
     → (done : IsReplayed line exits a c) × (after ≡ before + turns_of_replay line a done.has)
 replayed line a b d c setup said threads text o exits before after is quiet says of tells none prints ends cost =
@@ -168,7 +168,7 @@ pub replay_spent :
     (line : ReplayLine) (a b d c : World) (setup : Setup) (said threads text : List ℕ) (o : Outcome) (exits : Bool)
     (before after : ℕ)
     → IsAskedReplay line a b setup said → Quiet b d → Says said (Ok threads) → IsOutcomeOf setup threads o
-    → TellsOfReplay threads o text → AsksNothing d c → Prints d c text → is_exit (Some o.ending) ≡ exits
+    → ReportsReplay threads o text → AsksNothing d c → Prints d c text → is_exit (Some o.ending) ≡ exits
     → after ≡ before + o.instructions
     → ReplaySpends line a c before after (status_in (Ok exits))
 replay_spent line a b d c setup said threads text o true before after is quiet says of tells none prints ends cost =
@@ -187,9 +187,9 @@ replay_ends line a c before after false spent = inr spent.0
 pub replay_unprinted :
     (line : ReplayLine) (a b d c : World) (setup : Setup) (said threads text : List ℕ) (o : Outcome) (s : Status)
     → IsAskedReplay line a b setup said → Quiet b d → Says said (Ok threads) → IsOutcomeOf setup threads o
-    → TellsOfReplay threads o text → AsksNothing d c → WhyUnprinted text d c s → Ends (Some (Replays line)) a c s
+    → ReportsReplay threads o text → AsksNothing d c → WhyUnprinted text d c s → Ends (Some (Replays line)) a c s
 replay_unprinted line a b d c setup said threads text o s is quiet says of tells none why =
     let it = has_replay line a b setup said threads text o is says of tells in
-    untold (Replays line) (HasReplay line a) (text_of_replay line a) it.0 (λ s. ReplayEnds line a c s) a d c s
+    unstated (Replays line) (HasReplay line a) (text_of_replay line a) it.0 (λ s. ReplayEnds line a c s) a d c s
     (reads_then (files_named (Replays line)) a b d is.reads quiet) none (λ part. part)
     (subst (λ (l : List ℕ). WhyUnprinted l d c s) it.1.is_text why)

@@ -6,7 +6,7 @@ use Rattle.ith_top.specs.Files.{Named, Reads, Quiet, IsLong, IsWithin}
 
 pub stays_trans : (a b c : World) → Stays a b → Stays b c → Stays a c
 stays_trans a b c one other =
-    record { tells = other.tells ∙ one.tells; files = other.files ∙ one.files; printed = other.printed ∙ one.printed }
+    record { is_stated = other.is_stated ∙ one.is_stated; files = other.files ∙ one.files; printed = other.printed ∙ one.printed }
 
 pub none_fell_trans : (a b c : World) → NoneFell a b → NoneFell b c → NoneFell a c
 none_fell_trans a b c one other =
@@ -17,7 +17,7 @@ none_fell_trans a b c one other =
     }
 
 pub stays_same : (a : World) → Stays a a
-stays_same a = record { tells = refl; files = refl; printed = refl }
+stays_same a = record { is_stated = refl; files = refl; printed = refl }
 
 pub none_fell_same : (a : World) → NoneFell a a
 none_fell_same a = record { reads = λ name. omega arith; writes = λ name. omega arith; prints = omega arith }
@@ -42,16 +42,16 @@ rose_before a b c earlier rose = omega arith
 -- what a file is said to hold later, it held before
 pub content_before : (a b : World) (name bytes : List ℕ) → Stays a b → IsContent b name bytes → IsContent a name bytes
 content_before a b name bytes stays content =
-    subst (λ (files : List ℕ → Option (List ℕ)). IfSome (files name) (λ told. told ≡ bytes)) stays.files content
+    subst (λ (files : List ℕ → Option (List ℕ)). IfSome (files name) (λ reported. reported ≡ bytes)) stays.files content
 
 -- a told file that is too long later was so before
 pub long_before : (a b : World) (file : Named) → Stays a b → IsLong b file → IsLong a file
 long_before a b file stays long =
-    subst (λ (files : List ℕ → Option (List ℕ)). IfSome (files file.name) (λ told. file.most < length told)) stays.files
+    subst (λ (files : List ℕ → Option (List ℕ)). IfSome (files file.name) (λ reported. file.most < length reported)) stays.files
     long
 
 -- and one that is within its limit
 pub within_before : (a b : World) (file : Named) → Stays a b → IsWithin b file → IsWithin a file
 within_before a b file stays within =
-    subst (λ (files : List ℕ → Option (List ℕ)). IfSome (files file.name) (λ told. length told ≤ file.most)) stays.files
+    subst (λ (files : List ℕ → Option (List ℕ)). IfSome (files file.name) (λ reported. length reported ≤ file.most)) stays.files
     within

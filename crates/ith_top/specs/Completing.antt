@@ -18,8 +18,8 @@ pub record HasNoFault (line : Line) (before after : World) : Type 0 where
   pub writes : IfSome (new_memo_of line) (λ name. Rose (before.write_faults name) (after.write_faults name) → ⊥)
 
 -- The host states these contents of the edit lists of these names.
-abbrev pub AreTold : World → List Text → List (List ℕ) → Type 0
-AreTold before names lists = AllZip (λ name list. before.files name ≡ Some list) names lists
+abbrev pub AreStated : World → List Text → List (List ℕ) → Type 0
+AreStated before names lists = AllZip (λ name list. before.files name ≡ Some list) names lists
 
 -- The contents of the files of a `run` command are stated and within their limits, and the executable and the edit
 -- lists are accepted.
@@ -27,7 +27,7 @@ pub record AreAccepted (line : RunLine) (before : World) : Type 0 where
   pub contents : Contents
   pub elf : before.files line.elf ≡ Some contents.elf
   pub input : before.files line.input ≡ Some contents.input
-  pub lists : AreTold before line.edits contents.lists
+  pub lists : AreStated before line.edits contents.lists
   pub read : WasRead line before contents
   pub inputs : List (List ℕ)
   pub edited : AreInputs contents.input contents.lists inputs
@@ -35,7 +35,7 @@ pub record AreAccepted (line : RunLine) (before : World) : Type 0 where
 -- The content of a memo is stated, within its limit, and accepted.
 pub record IsAcceptedMemo (name : Text) (before : World) : Type 0 where
   pub memo : List ℕ
-  pub told : before.files name ≡ Some memo
+  pub stated : before.files name ≡ Some memo
   pub read : IsMemoContent before name memo
   pub history : History
   pub accepted : IsMemoOf memo history
@@ -45,7 +45,7 @@ pub record IsAcceptedMemo (name : Text) (before : World) : Type 0 where
 pub record AreRerunAccepted (line : RerunLine) (before : World) : Type 0 where
   pub memo : IsAcceptedMemo line.memo before
   pub lists : List (List ℕ)
-  pub lists_told : AreTold before line.edits lists
+  pub lists_stated : AreStated before line.edits lists
   pub lists_read : AreLists before line.edits lists
   pub inputs : List (List ℕ)
   pub edited : AreRerunInputs memo.history.setup.input lists inputs
@@ -71,8 +71,8 @@ IsCompleted line before after answer =
     ⊎ ((answer ≡ code_of status.TooLarge) × IsTooLargeToKeep line before after)))
 
 -- The text of a `replay` or `gen` command was printed whole, or the host's memory ran out.
-abbrev pub IsTold : ℕ → Type 0
-IsTold answer =
+abbrev pub IsReported : ℕ → Type 0
+IsReported answer =
     (answer ≡ code_of status.Finished) ⊎ ((answer ≡ code_of status.Unfinished) ⊎ (answer ≡ code_of status.Memory))
 
 -- The text of a `show`, `why` or `races` command was printed whole, or the host's memory ran out.
@@ -93,8 +93,8 @@ Completes (Some (Runs line)) before after answer =
 Completes (Some (Reruns line)) before after answer =
     AreRerunAccepted line before → HasNoFault (Reruns line) before after → IsCompleted (Reruns line) before after answer
 Completes (Some (Replays line)) before after answer =
-    IsReplayAccepted line before → HasNoFault (Replays line) before after → IsTold answer
-Completes (Some (Generates line)) before after answer = HasNoFault (Generates line) before after → IsTold answer
+    IsReplayAccepted line before → HasNoFault (Replays line) before after → IsReported answer
+Completes (Some (Generates line)) before after answer = HasNoFault (Generates line) before after → IsReported answer
 Completes (Some (Shows line)) before after answer =
     IsAcceptedMemo line.memo before → HasNoFault (Shows line) before after → IsListed answer
 Completes (Some (Explains line)) before after answer =

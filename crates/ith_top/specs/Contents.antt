@@ -144,7 +144,7 @@ as_rerun line =
 abbrev pub as_show : Text → ShowLine
 as_show name = record { memo = name }
 
--- The plan for the guest that is generated from a number: round 0 is from scratch, on the generated input, with the
+-- The plan of `gen` for a number: round 0 of the generated guest is from scratch, on the generated input, with the
 -- default limits; and round 1 is on this input after the generated edit.
 pub record IsGeneratedPlan (number : ℕ) (p : Plan) : Type 0 where
   pub elf : List ℕ

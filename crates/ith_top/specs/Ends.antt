@@ -67,14 +67,14 @@ new_memo_of _ = None
 
 -- No file changed, and these bytes were printed.
 pub record Prints (before after : World) (bytes : List ℕ) : Type 0 where
-  pub tells : after.tells ≡ before.tells
+  pub is_stated : after.is_stated ≡ before.is_stated
   pub files : after.files ≡ before.files
   pub printed : Appends before.printed after.printed bytes
 
 -- These bytes were printed; this content was written to the file of the name, if there is one; and no other file
 -- changed.
 pub record PrintsAndKeeps (name : Option Text) (content : List ℕ) (before after : World) (bytes : List ℕ) : Type 0 where
-  pub tells : after.tells ≡ before.tells
+  pub is_stated : after.is_stated ≡ before.is_stated
   pub printed : Appends before.printed after.printed bytes
   pub written : IfSome name (λ n. Holds after n content)
   pub others : (other : Text) → IfSome name (λ n. other ≢ n) → after.files other ≡ before.files other
@@ -208,9 +208,9 @@ pub record IsUnkept (line : Line) (before after : World) : Type 0 where
   pub is_named : new_memo_of line ≡ Some name
   pub within : length (memo (left_of has.plan has.found)) ≤ MOST_MEMO_BYTES
   pub cause : Rose (before.write_faults name) (after.write_faults name)
-  pub tells : after.tells ≡ before.tells
+  pub is_stated : after.is_stated ≡ before.is_stated
   pub printed : Appends before.printed after.printed (concat (texts_of has.plan has.found))
-  pub untold : after.files name ≡ None
+  pub unstated : after.files name ≡ None
   pub others : (other : Text) → other ≢ name → after.files other ≡ before.files other
 
 -- The host's memory ran out, after some of these files were read, and nothing was printed.

@@ -67,11 +67,11 @@ FailedToRead before after file = Rose (before.read_faults file.name) (after.read
 
 -- A file is longer than its limit, if its content is stated.
 abbrev pub IsLong : World → Named → Type 0
-IsLong before file = IfSome (before.files file.name) (λ told. file.most < length told)
+IsLong before file = IfSome (before.files file.name) (λ stated. file.most < length stated)
 
 -- A file is within its limit, if its content is stated.
 abbrev pub IsWithin : World → Named → Type 0
-IsWithin before file = IfSome (before.files file.name) (λ told. length told ≤ file.most)
+IsWithin before file = IfSome (before.files file.name) (λ stated. length stated ≤ file.most)
 
 -- Reads of the first of these files were requested, of none to all of them.
 pub record AsksForSome (files : List Named) (before after : World) : Type 0 where

@@ -24,8 +24,8 @@ use Rattle.ith_words.specs.Words.{Text, Line, Replays, ReplayLine}
 use Rattle.ith_top.specs.declared.crew.MadeRound.{MadeRound}
 use Rattle.ith_top.specs.declared.plan.Plan.{Plan as Planned}
 use Rattle.ith_top.specs.declared.plan.Beginning.{Beginning as Begun}
-use Rattle.ith_top.specs.declared.report.Telling.{Telling}
-use Rattle.ith_top.specs.declared.report.Telling.TheVariants as telling
+use Rattle.ith_top.specs.declared.report.Form.{Form}
+use Rattle.ith_top.specs.declared.report.Form.TheVariants as form
 use Rattle.ith_top.specs.Files.{files_named, Reads}
 use Rattle.ith_top.specs.Contents.{Plan, IsPlan, ReplayContents, WasReplayRead, replay_setup_of, IsGeneratedPlan}
 use Rattle.ith_top.specs.Rounds.{rounds_of}
@@ -71,19 +71,19 @@ data_of_made asked r =
     data_as_made r.round (extras_of asked r.round.past r.round.setup r.progress.items) r.worker_steps.items
 
 -- The text that reports a round in this way, by its data.
-abbrev pub text_by : Telling → ℕ → ReportData → List ℕ
-text_by telling.Report number told = report_text number told
-text_by telling.Line number told = short_text number told
+abbrev pub text_by : Form → ℕ → ReportData → List ℕ
+text_by form.Report number reported = report_text number reported
+text_by form.Line number reported = short_text number reported
 
 -- The text that reports a round in this way, as it was made.
-abbrev pub told_by : Telling → Round → List ℕ
-told_by telling.Report r = made_report r
-told_by telling.Line r = made_short r
+abbrev pub round_text_by : Form → Round → List ℕ
+round_text_by form.Report r = made_report r
+round_text_by form.Line r = made_short r
 
 -- This many workers made a round from this beginning, on this input, and it was watched if its progress is requested:
 -- the turns that they executed are counted, from `earlier` to `later`; the text that reports it in this way, whether it
 -- ended by exit, and the beginning of the next round.
-pub record IsMadeOn (workers : ℕ) (way : Telling) (b : Beginning) (input : List ℕ) (earlier later : ℕ) (text : List ℕ)
+pub record IsMadeOn (workers : ℕ) (way : Form) (b : Beginning) (input : List ℕ) (earlier later : ℕ) (text : List ℕ)
     (exit : Bool) (next : Beginning) : Type 0
   where
     pub found : Found
@@ -91,7 +91,7 @@ pub record IsMadeOn (workers : ℕ) (way : Telling) (b : Beginning) (input : Lis
     pub watched : IsWatched workers (round_on b input found)
     pub counted : IsCounted workers (round_on b input found)
     pub turns : later ≡ earlier + found.turns
-    pub is_text : text ≡ told_by way (round_on b input found)
+    pub is_text : text ≡ round_text_by way (round_on b input found)
     pub is_exit : exit ≡ made_exits (round_on b input found)
     pub is_next : next ≡ after_round b input found
 
@@ -155,8 +155,8 @@ data_of_outcome entries o =
     }
 
 -- The text that reports the outcome of a schedule.
-abbrev pub TellsOfReplay : List ℕ → Outcome → List ℕ → Type 0
-TellsOfReplay threads o text = text ≡ replay_text (data_of_outcome (all_executed threads) o)
+abbrev pub ReportsReplay : List ℕ → Outcome → List ℕ → Type 0
+ReportsReplay threads o text = text ≡ replay_text (data_of_outcome (all_executed threads) o)
 
 -- A setup is this one with the next of some inputs, which is removed from them.
 pub record IsWithNext (s : Setup) (before after : List (List ℕ)) (next : Setup) : Type 0 where
@@ -183,7 +183,7 @@ pub record GivesReasons (w : RoundState) (text : List ℕ) : Type 0 where
 -- A text says why the executed steps of the first round of a plan were executed, as one worker makes it. Each of them
 -- has a reason, and no other step has, if the history that the round is based on, if any, is coherent and of the
 -- round's program and fuel. If it is sound, or if there is none, the reasons are those of the machine from scratch.
-pub record TellsReasons (p : Plan) (text : List ℕ) : Type 0 where
+pub record ReportsReasons (p : Plan) (text : List ℕ) : Type 0 where
   pub input : List ℕ
   pub later : List (List ℕ)
   pub first : p.inputs ≡ input ∷ later
@@ -197,7 +197,7 @@ pub record TellsReasons (p : Plan) (text : List ℕ) : Type 0 where
       → reasons_of (explained_round p.beginning input)
       ≡ reasons_by (scratch_before (explained_round p.beginning input)) (explained_round p.beginning input)
 
--- This many workers made both rounds of the guest that is generated from a number, and no other: the counts rose by
+-- This many workers made both rounds of the plan of `gen` for a number, and no other: the counts rose by
 -- these rounds and their turns; the text on both, and whether each ended by exit.
 pub record AreTheGenerated (workers number : ℕ) (earlier later : Work) (text : List ℕ) (exits : Bool) : Type 0 where
   pub plan : Plan

@@ -80,7 +80,7 @@ WhyUnprinted text before after _ = ⊥
 
 -- This content was written to the file of this name, and nothing else changed.
 pub record Keeps (name : Text) (content : List ℕ) (before after : World) : Type 0 where
-  pub tells : after.tells ≡ before.tells
+  pub is_stated : after.is_stated ≡ before.is_stated
   pub printed : after.printed ≡ before.printed
   pub written : Holds after name content
   pub others : (other : Text) → other ≢ name → after.files other ≡ before.files other
@@ -90,9 +90,9 @@ pub record Keeps (name : Text) (content : List ℕ) (before after : World) : Typ
 pub record FailsToKeep (name : Text) (content : List ℕ) (before after : World) : Type 0 where
   pub within : length content ≤ MOST_MEMO_BYTES
   pub cause : Rose (before.write_faults name) (after.write_faults name)
-  pub tells : after.tells ≡ before.tells
+  pub is_stated : after.is_stated ≡ before.is_stated
   pub printed : after.printed ≡ before.printed
-  pub untold : after.files name ≡ None
+  pub unstated : after.files name ≡ None
   pub others : (other : Text) → other ≢ name → after.files other ≡ before.files other
 
 -- A memo is longer than it may be, and nothing changed.

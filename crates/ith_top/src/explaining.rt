@@ -10,7 +10,7 @@ ghost use Rattle.ith_top.specs.Contents.{as_rerun};
 ghost use Rattle.ith_top.specs.Explaining.{explained_round};
 ghost use Rattle.ith_top.specs.Ends.{Ends, EndsEarly};
 ghost use Rattle.ith_top.specs.Counting.{ExplainSpends};
-ghost use Rattle.ith_top.specs.Playing.{plan_said, CanBePlayed, IsPrepared, IsWithNext, IsFirstRound, GivesReasons, TellsReasons};
+ghost use Rattle.ith_top.specs.Playing.{plan_said, CanBePlayed, IsPrepared, IsWithNext, IsFirstRound, GivesReasons, ReportsReasons};
 
 use super::outside::print_text;
 use super::plan::{Beginning, Plan, prepare_rerun, take_input};
@@ -100,7 +100,7 @@ fn text_of(
     compared: &mut Compared,
 ) -> Result<Vec<u8>, AllocError>
     requires { CanBePlayed (plan_said plan) }
-    ensures reasons { IfOk result (λ text. TellsReasons (plan_said plan) text.items) }
+    ensures reasons { IfOk result (λ text. ReportsReasons (plan_said plan) text.items) }
     ensures cost { IfOk result (λ _. (input : List ℕ) (later : List (List ℕ)) →
         (plan_said plan).inputs ≡ input ∷ later
         → turns.new ≡ turns.old + executed_by (explained_round (plan_said plan).beginning input)) }

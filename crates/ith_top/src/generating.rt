@@ -18,7 +18,7 @@ ghost use Rattle.ith_top.specs.Playing.{plan_said, CanBePlayed, CanBeEncoded, Ar
 use super::crew::Crew;
 use super::outside::print_text;
 use super::plan::{Plan, from_scratch, take_input};
-use super::report::{Telling, make_round};
+use super::report::{Form, make_round};
 use super::status::Status;
 use edit_list::{InputsError, inputs_of};
 use elf_load::LoadError;
@@ -49,8 +49,8 @@ fn default_setup(alloc: Global, elf: Vec<u8>, input: Vec<u8>) -> Result<Setup, L
     Setup::new(alloc, elf, input, default_limits())
 }
 
-/// The plan for the guest that is generated from a number: round 0 on the generated input, and round 1 on that input
-/// after the generated edit.
+/// The plan of `gen` for a number: round 0 of the generated guest on the input that is generated from the number, and
+/// round 1 on that input after the generated edit.
 fn prepare(alloc: Global, number: u32) -> Result<Plan, AllocError>
     ensures plan { IfOk result (λ plan. IsGeneratedPlan number (plan_said plan)) }
     ensures playable { IfOk result (λ plan. CanBePlayed (plan_said plan)) }
@@ -76,7 +76,7 @@ fn prepare(alloc: Global, number: u32) -> Result<Plan, AllocError>
     }
 }
 
-/// A line with the number that a guest is generated from, and the lines of its rounds.
+/// A line with the number that the input and its edit are generated from, and the lines of the rounds.
 fn text_of(alloc: Global, number: u32, first: &[u8], second: &[u8]) -> Result<Vec<u8>, AllocError>
     ensures { IfOk result (λ text. text.items ≡ text_line (codes "gen") (decimal number)
         ++ first.now ++ second.now) }
@@ -99,7 +99,7 @@ struct Lines {
     exits: bool,
 }
 
-/// Makes both rounds of the guest that is generated from a number, by the workers of the crew.
+/// Makes both rounds of the plan of `gen` for a number, by the workers of the crew.
 fn make_both<R: Threads + Wait + Sync, G: Gate + Sync>(
     alloc: Global,
     number: u32,
@@ -116,8 +116,8 @@ fn make_both<R: Threads + Wait + Sync, G: Gate + Sync>(
     let input = take_input(&mut inputs)?;
     let edited = take_input(&mut inputs)?;
     let mut last = None;
-    let first = make_round(alloc, beginning, input, crew, Telling::Line, &mut last)?;
-    let second = make_round(alloc, first.next, edited, crew, Telling::Line, &mut last)?;
+    let first = make_round(alloc, beginning, input, crew, Form::Line, &mut last)?;
+    let second = make_round(alloc, first.next, edited, crew, Form::Line, &mut last)?;
     let text = text_of(alloc, number, first.text.as_slice(), second.text.as_slice())?;
     Ok(Lines {
         text,

@@ -11,7 +11,7 @@ ghost use Rattle.ith_top.specs.Files.{Quiet};
 ghost use Rattle.ith_top.specs.Ends.{Ends, EndsEarly};
 ghost use Rattle.ith_top.specs.Counting.{ReplaySpends};
 ghost use Rattle.ith_top.specs.Refusals.{WhyNoThreads, WhyUnreplayed};
-ghost use Rattle.ith_top.specs.Playing.{IsAskedReplay, TellsOfReplay, data_of_outcome};
+ghost use Rattle.ith_top.specs.Playing.{IsAskedReplay, ReportsReplay, data_of_outcome};
 
 use super::complaints::{INCOMPLETE, schedule_line};
 use super::files::{ReplayFiles, read_replay_files};
@@ -126,7 +126,7 @@ fn data_of<'a>(entries: &'a [Entry], outcome: &'a Outcome) -> ReportData<'a>
 
 /// The text that reports the outcome of a schedule.
 fn text_of(alloc: Global, threads: &[u8], outcome: &Outcome) -> Result<Vec<u8>, AllocError>
-    ensures { IfOk result (λ text. TellsOfReplay threads.now outcome.now text.items) }
+    ensures { IfOk result (λ text. ReportsReplay threads.now outcome.now text.items) }
 {
     let entries = all_executed(alloc, threads)?;
     replayed(alloc, &data_of(entries.as_slice(), outcome))

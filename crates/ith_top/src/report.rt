@@ -33,7 +33,7 @@ pub struct ReportedRound {
 
 /// The data of the report on a round that was made, with the optional lines that are requested.
 fn data_of<'a>(made: &'a MadeRound, asked: Asked) -> Result<ReportData<'a>, AllocError>
-    ensures { IfOk result (λ told. told ≡ data_of_made asked made.now) }
+    ensures { IfOk result (λ reported. reported ≡ data_of_made asked made.now) }
 {
     let round = &made.round;
     let reached = if asked.reach {
@@ -60,7 +60,7 @@ fn data_of<'a>(made: &'a MadeRound, asked: Asked) -> Result<ReportData<'a>, Allo
 
 /// How a round is reported.
 #[derive(Clone, Copy)]
-pub enum Telling {
+pub enum Form {
     /// By its full report.
     Report,
     /// By one line.
@@ -74,16 +74,16 @@ fn text_of(
     number: usize,
     asked: Asked,
     made: &MadeRound,
-    telling: Telling,
+    form: Form,
     last: &mut Option<Digested>,
 ) -> Result<Vec<u8>, AllocError>
     ensures { IfOk result (λ text.
-        text.items ≡ text_by telling number (data_of_made asked made.now)) }
+        text.items ≡ text_by form number (data_of_made asked made.now)) }
 {
-    let told = data_of(made, asked)?;
-    match telling {
-        Telling::Report => text(alloc, number as u64, &told, last),
-        Telling::Line => short(alloc, number as u64, &told),
+    let reported = data_of(made, asked)?;
+    match form {
+        Form::Report => text(alloc, number as u64, &reported, last),
+        Form::Line => short(alloc, number as u64, &reported),
     }
 }
 
@@ -116,13 +116,13 @@ pub fn make_round<R: Threads + Wait + Sync, G: Gate + Sync>(
     beginning: Beginning,
     input: Vec<u8>,
     crew: &mut Crew<'_, R, G>,
-    telling: Telling,
+    form: Form,
     last: &mut Option<Digested>,
 ) -> Result<ReportedRound, AllocError>
     requires short { length input.items ≤ MOST_INPUT_BYTES }
     requires same { IsOfMap (option_map arc_value beginning.past) beginning.setup }
     requires few { beginning.number + 1 < 2 ^ 64 }
-    ensures played { IfOk result (λ played. IsMadeOn crew.old.workers telling
+    ensures played { IfOk result (λ played. IsMadeOn crew.old.workers form
         (beginning_said beginning) input.items crew.old.work.turns crew.new.work.turns
         played.text.items played.exited (beginning_said played.next)) }
     ensures made { IfOk result (λ _. crew.new.work.rounds ≡ crew.old.work.rounds + 1) }
@@ -137,7 +137,7 @@ pub fn make_round<R: Threads + Wait + Sync, G: Gate + Sync>(
     } = beginning;
     let start = setup.with_input(input)?;
     let made = crew.make(alloc, number as u64, start, past, asked.progress)?;
-    let text = text_of(alloc, number, asked, &made, telling, last)?;
+    let text = text_of(alloc, number, asked, &made, form, last)?;
     let exited = is_exit(made.round.end());
     let left = left_by(alloc, made.round)?;
     let next = Beginning {

@@ -9,7 +9,7 @@ ghost use Rattle.ith_top.specs.Playing.{plan_said, CanBePlayed, IsPlayed};
 use super::crew::Crew;
 use super::outside::print_text;
 use super::plan::{Beginning, Plan, take_input};
-use super::report::{ReportedRound, Telling, make_round};
+use super::report::{Form, ReportedRound, make_round};
 use super::status::Status;
 use ith_host::{Gate, Host};
 use release_core::History;
@@ -56,7 +56,7 @@ pub fn make_rounds<R: Threads + Wait + Sync, H: Host, G: Gate + Sync>(
             beginning,
             input,
             crew,
-            Telling::Report,
+            Form::Report,
             &mut last,
         )?;
         print_text(alloc, host, text.as_slice())?;

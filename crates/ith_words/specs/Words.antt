@@ -68,7 +68,7 @@ pub record AuditLine : Type 0 where
 pub record RacesLine : Type 0 where
   pub memo : Text
 
--- A `gen` command line: the number that the guest is generated from, and the number of workers.
+-- A `gen` command line: the number that the input and its edit are generated from, and the number of workers.
 pub record GenerateLine : Type 0 where
   pub number : ℕ
   pub workers : ℕ

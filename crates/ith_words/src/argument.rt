@@ -63,11 +63,8 @@ pub fn round_options<'a>(turns: &'a str, most: &'a str) -> [Argument<'a>; 6]
         fuel(turns),
         steps(most),
         Argument::Memo,
-        Argument::Flag("reach", "Tells how many old steps an edit reaches"),
-        Argument::Flag(
-            "progress",
-            "Tells how many steps were made, as often as it was looked at",
-        ),
+        Argument::Flag("reach", "Reports how many old steps the edit reaches"),
+        Argument::Flag("progress", "Reports how many steps were made at each look"),
     ]
 }
 

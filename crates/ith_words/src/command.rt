@@ -69,7 +69,7 @@ fn rerun_command<'a>(alloc: Global) -> Result<Command<'a>, AllocError>
     command(
         alloc,
         "rerun",
-        "Goes on from a memo",
+        "Runs the guest of a memo again, after edits of its input",
         &operands,
         &round_options(turns, most),
     )
@@ -120,7 +120,7 @@ fn explain_command<'a>(alloc: Global) -> Result<Command<'a>, AllocError>
     command(
         alloc,
         "why",
-        "Tells why steps of a rerun are executed",
+        "Explains why steps of a rerun are executed",
         &operands,
         &[],
     )
@@ -136,7 +136,7 @@ fn audit_command<'a>(alloc: Global) -> Result<Command<'a>, AllocError>
     command(
         alloc,
         "audit",
-        "Tells whether a memo is honest",
+        "Checks whether a memo is honest",
         &operands,
         &[workers()],
     )
@@ -168,7 +168,7 @@ fn generate_command<'a>(alloc: Global) -> Result<Command<'a>, AllocError>
     command(
         alloc,
         "gen",
-        "Runs a guest that is generated from a number",
+        "Runs a guest on an input and an edit that are generated from a number",
         &operands,
         &[workers()],
     )

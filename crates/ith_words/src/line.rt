@@ -10,10 +10,11 @@ use machine_spec::Limits;
 /// The most workers that a command line may request.
 pub const MOST_WORKERS: u32 = 16;
 
-/// The greatest number that a guest is generated from.
+/// The greatest number that an input and its edit are generated from.
 pub const MOST_NUMBER: u32 = u32::MAX;
 
-/// A command line requests at most 16 workers. A guest is generated from any 32-bit number.
+/// A command line requests at most 16 workers. An input and its edit are generated from any 32-bit
+/// number.
 pub fn limits_are_as_documented()
     ensures workers { MOST_WORKERS ≡ 16 }
     ensures number { MOST_NUMBER ≡ 2 ^ 32 - 1 }
@@ -138,7 +139,7 @@ pub struct RacesLine<'a> {
 /// A `gen` command line.
 #[derive(Clone, Copy)]
 pub struct GenerateLine {
-    /// The number that the guest, its input and its edit are generated from.
+    /// The number that the input and its edit are generated from.
     pub number: u32,
     /// The number of workers.
     pub workers: u32,

@@ -97,7 +97,7 @@ const REFUSED: [Refused; 4] = [
 ];
 
 #[test]
-fn the_first_refused_list_is_told(rt: HostRuntime) -> Result<(), AllocError> {
+fn the_first_refused_list_is_reported(rt: HostRuntime) -> Result<(), AllocError> {
     for (texts, list, line, why) in REFUSED {
         let wanted = Some(InputsError::Refused { list, line, why });
         assert!(rt; refusal(rt.alloc(), texts)? == wanted, "list {list}");

@@ -80,17 +80,17 @@ fn meet_fate<V: View>(
     Ok(())
 }
 
-/// The calls of waiting threads return with 0 in a0, and with `told` in a1 if there is one.
+/// The calls of waiting threads return with 0 in a0, and with `reported` in a1 if there is one.
 fn wake<V: View>(
     harts: &mut [Hart<V>],
     memory: &V,
     views: &mut Vec<V>,
     threads: &Queue,
-    told: Option<u32>,
+    reported: Option<u32>,
 ) -> Result<(), AllocError>
     requires { AreViewsOf V.pages (V.pages memory.now) views.old.items }
     ensures harts { OnOk result (harts.new
-        ≡ woken (V.pages memory.now) told threads.now harts.old) }
+        ≡ woken (V.pages memory.now) reported threads.now harts.old) }
     ensures rest { AreViewsOf V.pages (V.pages memory.now) views.new.items }
     ensures count { vec_len views.old ≤ vec_len views.new + length threads.now }
     ensures few { OnErr result (vec_len views.old < length threads.now) }
@@ -101,7 +101,7 @@ fn wake<V: View>(
         let view = next_view(memory, views)?;
         if thread < harts.len() {
             let hart = &mut harts[thread];
-            hart.return_with(view, 0, told);
+            hart.return_with(view, 0, reported);
         }
     }
     Ok(())
@@ -157,7 +157,7 @@ pub(super) fn settle<V: View>(
         memory,
         views,
         effect.woken(),
-        effect.told(),
+        effect.reported(),
     )?;
     begin(harts, memory, views, effect.created())
 }

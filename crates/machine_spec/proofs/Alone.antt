@@ -6,7 +6,7 @@ use Rattle.std.proofs.lemmas.List.Quantifiers.{position-Some}
 use Rattle.std.specs.List.{list_any, filter, position, position_or_len}
 use Rattle.guest_call.specs.Objects.{act}
 use Rattle.memory_spec.specs.Pages.{Memory}
-use Rattle.memory_spec.specs.Stores.{laid}
+use Rattle.memory_spec.specs.Stores.{with_stores}
 use Rattle.isa_spec.specs.Registers.{Registers}
 use Rattle.thunk_spec.specs.declared.ends.ThunkEnd.{ThunkEnd}
 use Rattle.thunk_spec.specs.Thunk.{thunk}

@@ -69,98 +69,98 @@ status-set (x ∷ hs) (suc t) zero h same = refl
 status-set (x ∷ hs) (suc t) (suc u) h same = status-set hs t u h same
 
 pub length-woken :
-    (memory : Memory) (told : Option ℕ) (us : List ℕ) (hs : List Hart) → length (woken memory told us hs) ≡ length hs
-length-woken memory told [] hs = refl
-length-woken memory told (v ∷ us) hs =
-    length-woken memory told us (set hs v (returned memory 0 told (hart_in hs v)))
-    ∙ length-set hs v (returned memory 0 told (hart_in hs v))
+    (memory : Memory) (reported : Option ℕ) (us : List ℕ) (hs : List Hart) → length (woken memory reported us hs) ≡ length hs
+length-woken memory reported [] hs = refl
+length-woken memory reported (v ∷ us) hs =
+    length-woken memory reported us (set hs v (returned memory 0 reported (hart_in hs v)))
+    ∙ length-set hs v (returned memory 0 reported (hart_in hs v))
 
 -- who isn't woken stays
 pub woken-stays :
-    (memory : Memory) (told : Option ℕ) (us : List ℕ) (hs : List Hart) (u : ℕ)
+    (memory : Memory) (reported : Option ℕ) (us : List ℕ) (hs : List Hart) (u : ℕ)
     → places u us ≡ 0
-    → hart_in (woken memory told us hs) u ≡ hart_in hs u
-woken-stays memory told [] hs u none = refl
-woken-stays memory told (v ∷ us) hs u none =
+    → hart_in (woken memory reported us hs) u ≡ hart_in hs u
+woken-stays memory reported [] hs u none = refl
+woken-stays memory reported (v ∷ us) hs u none =
     elim (cases_eq v u) [
       | inl same ↦ absurd
           (let one : eqb v u ≡ true = eq-eqb v u same in let all = rw (places-cons u v us, one) at none in omega arith)
       | inr other ↦
-          woken-stays memory told us (set hs v (returned memory 0 told (hart_in hs v))) u
+          woken-stays memory reported us (set hs v (returned memory 0 reported (hart_in hs v))) u
           (let all : tally (eqb v u) + places u us ≡ 0 = sym (places-cons u v us) ∙ none in omega arith)
-          ∙ get_or-set_other hs v u (returned memory 0 told (hart_in hs v)) nobody (λ e. other (sym e))
+          ∙ get_or-set_other hs v u (returned memory 0 reported (hart_in hs v)) nobody (λ e. other (sym e))
     ]
 
 -- who is woken was blocked, and is blocked no more
 pub woken-blocked :
-    (memory : Memory) (told : Option ℕ) (us : List ℕ) (hs : List Hart) (u : ℕ)
+    (memory : Memory) (reported : Option ℕ) (us : List ℕ) (hs : List Hart) (u : ℕ)
     → places u us ≤ blocked_count (hart_in hs u).status
-    → blocked_count (hart_in (woken memory told us hs) u).status + places u us ≡ blocked_count (hart_in hs u).status
-woken-blocked memory told [] hs u h = let none : places u [] ≡ 0 = places-nil u in omega arith
-woken-blocked memory told (v ∷ us) hs u h =
+    → blocked_count (hart_in (woken memory reported us hs) u).status + places u us ≡ blocked_count (hart_in hs u).status
+woken-blocked memory reported [] hs u h = let none : places u [] ≡ 0 = places-nil u in omega arith
+woken-blocked memory reported (v ∷ us) hs u h =
     elim (cases_eq v u) [
       | inl same ↦
           let one : eqb v u ≡ true = eq-eqb v u same in
           let all : places u (v ∷ us) ≡ 1 + places u us = places-cons u v us ∙ ap (λ b. tally b + places u us) one in
           let most : blocked_count (hart_in hs u).status ≤ 1 = blocked_count-le (hart_in hs u).status in
           let below : u < length hs = blocked-below hs u (omega arith) in
-          let here : hart_in (set hs v (returned memory 0 told (hart_in hs v))) u
-          ≡ returned memory 0 told (hart_in hs v) =
-          rw (← same) (get_or-set_same hs v (returned memory 0 told (hart_in hs v)) nobody (rw same below)) in
-          let now_ready : blocked_count (hart_in (set hs v (returned memory 0 told (hart_in hs v))) u).status ≡ 0 =
+          let here : hart_in (set hs v (returned memory 0 reported (hart_in hs v))) u
+          ≡ returned memory 0 reported (hart_in hs v) =
+          rw (← same) (get_or-set_same hs v (returned memory 0 reported (hart_in hs v)) nobody (rw same below)) in
+          let now_ready : blocked_count (hart_in (set hs v (returned memory 0 reported (hart_in hs v))) u).status ≡ 0 =
           ap (λ (x : Hart). blocked_count x.status) here in
           let rest :
-          blocked_count (hart_in (woken memory told us (set hs v (returned memory 0 told (hart_in hs v)))) u).status
+          blocked_count (hart_in (woken memory reported us (set hs v (returned memory 0 reported (hart_in hs v)))) u).status
           + places u us
-          ≡ blocked_count (hart_in (set hs v (returned memory 0 told (hart_in hs v))) u).status =
-          woken-blocked memory told us (set hs v (returned memory 0 told (hart_in hs v))) u (omega arith) in
+          ≡ blocked_count (hart_in (set hs v (returned memory 0 reported (hart_in hs v))) u).status =
+          woken-blocked memory reported us (set hs v (returned memory 0 reported (hart_in hs v))) u (omega arith) in
           omega arith
       | inr other ↦
           let none : eqb v u ≡ false = grind (arith, nat_tests) in
           let all : places u (v ∷ us) ≡ places u us =
           places-cons u v us ∙ ap (λ b. tally b + places u us) none ∙ omega arith in
-          let stays : hart_in (set hs v (returned memory 0 told (hart_in hs v))) u ≡ hart_in hs u =
-          get_or-set_other hs v u (returned memory 0 told (hart_in hs v)) nobody (λ e. other (sym e)) in
-          let same : blocked_count (hart_in (set hs v (returned memory 0 told (hart_in hs v))) u).status
+          let stays : hart_in (set hs v (returned memory 0 reported (hart_in hs v))) u ≡ hart_in hs u =
+          get_or-set_other hs v u (returned memory 0 reported (hart_in hs v)) nobody (λ e. other (sym e)) in
+          let same : blocked_count (hart_in (set hs v (returned memory 0 reported (hart_in hs v))) u).status
           ≡ blocked_count (hart_in hs u).status =
           ap (λ (x : Hart). blocked_count x.status) stays in
           let rest :
-          blocked_count (hart_in (woken memory told us (set hs v (returned memory 0 told (hart_in hs v)))) u).status
+          blocked_count (hart_in (woken memory reported us (set hs v (returned memory 0 reported (hart_in hs v)))) u).status
           + places u us
-          ≡ blocked_count (hart_in (set hs v (returned memory 0 told (hart_in hs v))) u).status =
-          woken-blocked memory told us (set hs v (returned memory 0 told (hart_in hs v))) u (omega arith) in
+          ≡ blocked_count (hart_in (set hs v (returned memory 0 reported (hart_in hs v))) u).status =
+          woken-blocked memory reported us (set hs v (returned memory 0 reported (hart_in hs v))) u (omega arith) in
           omega arith
     ]
 
 -- who is woken has not ended, before and after
 pub woken-ended :
-    (memory : Memory) (told : Option ℕ) (us : List ℕ) (hs : List Hart) (u : ℕ)
+    (memory : Memory) (reported : Option ℕ) (us : List ℕ) (hs : List Hart) (u : ℕ)
     → places u us ≤ blocked_count (hart_in hs u).status
-    → ended_value (hart_in (woken memory told us hs) u).status ≡ ended_value (hart_in hs u).status
-woken-ended memory told [] hs u h = refl
-woken-ended memory told (v ∷ us) hs u h =
+    → ended_value (hart_in (woken memory reported us hs) u).status ≡ ended_value (hart_in hs u).status
+woken-ended memory reported [] hs u h = refl
+woken-ended memory reported (v ∷ us) hs u h =
     elim (cases_eq v u) [
       | inl same ↦
           let one : eqb v u ≡ true = eq-eqb v u same in
           let all : places u (v ∷ us) ≡ 1 + places u us = places-cons u v us ∙ ap (λ b. tally b + places u us) one in
           let most : blocked_count (hart_in hs u).status ≤ 1 = blocked_count-le (hart_in hs u).status in
           let below : u < length hs = blocked-below hs u (omega arith) in
-          let here : hart_in (set hs v (returned memory 0 told (hart_in hs v))) u
-          ≡ returned memory 0 told (hart_in hs v) =
-          rw (← same) (get_or-set_same hs v (returned memory 0 told (hart_in hs v)) nobody (rw same below)) in
-          woken-ended memory told us (set hs v (returned memory 0 told (hart_in hs v))) u (omega arith)
+          let here : hart_in (set hs v (returned memory 0 reported (hart_in hs v))) u
+          ≡ returned memory 0 reported (hart_in hs v) =
+          rw (← same) (get_or-set_same hs v (returned memory 0 reported (hart_in hs v)) nobody (rw same below)) in
+          woken-ended memory reported us (set hs v (returned memory 0 reported (hart_in hs v))) u (omega arith)
           ∙ ap (λ (x : Hart). ended_value x.status) here
           ∙ sym (ended_value-blocked (hart_in hs u).status (omega arith))
       | inr other ↦
           let none : eqb v u ≡ false = grind (arith, nat_tests) in
           let all : places u (v ∷ us) ≡ places u us =
           places-cons u v us ∙ ap (λ b. tally b + places u us) none ∙ omega arith in
-          let stays : hart_in (set hs v (returned memory 0 told (hart_in hs v))) u ≡ hart_in hs u =
-          get_or-set_other hs v u (returned memory 0 told (hart_in hs v)) nobody (λ e. other (sym e)) in
-          let same : blocked_count (hart_in (set hs v (returned memory 0 told (hart_in hs v))) u).status
+          let stays : hart_in (set hs v (returned memory 0 reported (hart_in hs v))) u ≡ hart_in hs u =
+          get_or-set_other hs v u (returned memory 0 reported (hart_in hs v)) nobody (λ e. other (sym e)) in
+          let same : blocked_count (hart_in (set hs v (returned memory 0 reported (hart_in hs v))) u).status
           ≡ blocked_count (hart_in hs u).status =
           ap (λ (x : Hart). blocked_count x.status) stays in
-          woken-ended memory told us (set hs v (returned memory 0 told (hart_in hs v))) u (omega arith)
+          woken-ended memory reported us (set hs v (returned memory 0 reported (hart_in hs v))) u (omega arith)
           ∙ ap (λ (x : Hart). ended_value x.status) stays
     ]
 

@@ -11,8 +11,8 @@ use Rattle.std.specs.Str.{bytes_eq}
 use Rattle.isa_spec.specs.Registers.{Registers}
 use Rattle.isa_spec.proofs.Equality.{same_registers-true}
 use Rattle.memory_spec.specs.Pages.{Mapped, Memory, IsMemory}
-use Rattle.memory_spec.specs.Stores.{laid}
-use Rattle.memory_spec.proofs.Laid.{IsMemory-laid}
+use Rattle.memory_spec.specs.Stores.{with_stores}
+use Rattle.memory_spec.proofs.WithStores.{IsMemory-with_stores}
 use Rattle.guest_call.specs.declared.Call.{Call}
 use Rattle.guest_call.specs.declared.Fate.{Fate}
 use Rattle.guest_call.specs.declared.Fate.TheVariants.{Returns, Blocks, Ends, Exits}
@@ -89,7 +89,7 @@ pub step-stays :
 unfolding step
 step-stays m t u whole can other ready_u =
     let done : Thunk = thunk m.frame (hart_of m t).view (hart_of m t).regs in
-    finished-stays m t u (laid m.frame.map m.memory (thunk m.frame (hart_of m t).view (hart_of m t).regs).stores)
+    finished-stays m t u (with_stores m.frame.map m.memory (thunk m.frame (hart_of m t).view (hart_of m t).regs).stores)
     (thunk m.frame (hart_of m t).view (hart_of m t).regs).regs
     (thunk m.frame (hart_of m t).view (hart_of m t).regs).end
     (thunk m.frame (hart_of m t).view (hart_of m t).regs).put
@@ -142,13 +142,13 @@ hart-fated map steps (Ends v) memory h whole fit = record { view = fit.view; num
 hart-fated map steps (Exits code) memory h whole fit = fit
 
 hart-woken :
-    (map : List Mapped) (steps : ℕ) (memory : Memory) (told : Option ℕ) (us : List ℕ) (hs : List Hart)
+    (map : List Mapped) (steps : ℕ) (memory : Memory) (reported : Option ℕ) (us : List ℕ) (hs : List Hart)
     → IsMemory map memory → AllByRecursion (IsHartOf map steps) hs
-    → AllByRecursion (IsHartOf map steps) (woken memory told us hs)
-hart-woken map steps memory told [] hs whole all = all
-hart-woken map steps memory told (v ∷ us) hs whole all =
-    hart-woken map steps memory told us (set hs v (returned memory 0 told (hart_in hs v))) whole
-    (hart-set map steps hs v (returned memory 0 told (hart_in hs v))
+    → AllByRecursion (IsHartOf map steps) (woken memory reported us hs)
+hart-woken map steps memory reported [] hs whole all = all
+hart-woken map steps memory reported (v ∷ us) hs whole all =
+    hart-woken map steps memory reported us (set hs v (returned memory 0 reported (hart_in hs v))) whole
+    (hart-set map steps hs v (returned memory 0 reported (hart_in hs v))
     (record { view = whole; number = number-at map steps hs v all }) all)
 
 hart-created :
@@ -165,8 +165,8 @@ hart-settled :
     → AllByRecursion (IsHartOf map steps) hs → AllByRecursion (IsHartOf map steps) (settled e memory t hs)
 hart-settled map steps e memory t hs below whole all =
     hart-created map steps memory e.created
-    (woken memory e.told e.woken (set hs t (fated e.fate memory (hart_in hs t)))) whole
-    (hart-woken map steps memory e.told e.woken (set hs t (fated e.fate memory (hart_in hs t))) whole
+    (woken memory e.reported e.woken (set hs t (fated e.fate memory (hart_in hs t)))) whole
+    (hart-woken map steps memory e.reported e.woken (set hs t (fated e.fate memory (hart_in hs t))) whole
     (hart-set map steps hs t (fated e.fate memory (hart_in hs t))
     (hart-fated map steps e.fate memory (hart_in hs t) whole (hart-at map steps hs t below all)) all))
 
@@ -274,12 +274,12 @@ finished-whole m t memory regs e put whole can fit =
 pub step-whole : (m : Machine) (t : ℕ) → IsWhole m → can_step m t ≡ true → IsWhole (step m t)
 unfolding step
 step-whole m t whole can =
-    finished-whole m t (laid m.frame.map m.memory (thunk m.frame (hart_of m t).view (hart_of m t).regs).stores)
+    finished-whole m t (with_stores m.frame.map m.memory (thunk m.frame (hart_of m t).view (hart_of m t).regs).stores)
     (thunk m.frame (hart_of m t).view (hart_of m t).regs).regs
     (thunk m.frame (hart_of m t).view (hart_of m t).regs).end
     (thunk m.frame (hart_of m t).view (hart_of m t).regs).put
     whole can
-    (IsMemory-laid m.frame.map m.memory (thunk m.frame (hart_of m t).view (hart_of m t).regs).stores whole.memory)
+    (IsMemory-with_stores m.frame.map m.memory (thunk m.frame (hart_of m t).view (hart_of m t).regs).stores whole.memory)
 
 -- applying
 

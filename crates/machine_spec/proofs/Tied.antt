@@ -99,12 +99,12 @@ record IsFollowed (o after : Objects) (e : Effect) (t : ℕ) : Type 0 where
 
 -- the harts of the middle: the caller's fate is done and the woken are ready, and nobody is created yet
 abbrev woken_harts : Effect → Memory → ℕ → List Hart → List Hart
-woken_harts e memory t hs = woken memory e.told e.woken (fated_harts e memory t hs)
+woken_harts e memory t hs = woken memory e.reported e.woken (fated_harts e memory t hs)
 
 length-woken_harts :
     (e : Effect) (memory : Memory) (t : ℕ) (hs : List Hart) → length (woken_harts e memory t hs) ≡ length hs
 length-woken_harts e memory t hs =
-    length-woken memory e.told e.woken (fated_harts e memory t hs)
+    length-woken memory e.reported e.woken (fated_harts e memory t hs)
     ∙ length-set hs t (fated e.fate memory (hart_in hs t))
 
 -- an effect that the objects follow keeps the agreement
@@ -128,7 +128,7 @@ tied-settled o after hs e memory t tied ready followed =
       blocked = λ u.
           let keeps = followed.keeps u in
           let before = fated_harts-blocked o hs e memory t u tied ready in
-          let wakes = woken-blocked memory e.told e.woken (fated_harts e memory t hs) u (few u) in
+          let wakes = woken-blocked memory e.reported e.woken (fated_harts e memory t hs) u (few u) in
           let creates = created-blocked memory e.created (woken_harts e memory t hs) u in
           omega arith;
       ended = λ u below_u.
@@ -136,7 +136,7 @@ tied-settled o after hs e memory t tied ready followed =
             | inl inside ↦
                 followed.ended u
                 ∙ sym (fated_harts-ended o hs e memory t u tied ready inside)
-                ∙ sym (woken-ended memory e.told e.woken (fated_harts e memory t hs) u (few u))
+                ∙ sym (woken-ended memory e.reported e.woken (fated_harts e memory t hs) u (few u))
                 ∙ ap (λ (h : Hart). ended_value h.status)
                 (sym (created-stays memory e.created (woken_harts e memory t hs) u (omega arith)))
             | inr past ↦
@@ -160,7 +160,7 @@ stays-settled o after hs e memory t u tied ready followed other ready_u =
     let waits : waits_at o u ≡ 0 = tied.blocked u ∙ blocked_count-ready (hart_in hs u).status ready_u in
     let enters : entering t e.fate u ≡ 0 = entering-other t e.fate u other in
     created-stays memory e.created (woken_harts e memory t hs) u (omega arith)
-    ∙ woken-stays memory e.told e.woken (fated_harts e memory t hs) u (omega arith)
+    ∙ woken-stays memory e.reported e.woken (fated_harts e memory t hs) u (omega arith)
     ∙ get_or-set_other hs t u (fated e.fate memory (hart_in hs t)) nobody other
 
 act-followed :

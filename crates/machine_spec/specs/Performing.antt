@@ -30,9 +30,9 @@ fated (Exits code) memory h = h
 
 -- The harts after the calls of these waiting threads returned 0, and the same second value, if there is one.
 abbrev pub woken : Memory → Option ℕ → List ℕ → List Hart → List Hart
-woken memory told [] harts = harts
-woken memory told (u ∷ threads) harts =
-    woken memory told threads (slice_set harts u (returned memory 0 told (hart_in harts u)))
+woken memory reported [] harts = harts
+woken memory reported (u ∷ threads) harts =
+    woken memory reported threads (slice_set harts u (returned memory 0 reported (hart_in harts u)))
 
 -- The first registers of thread t: pc, argument in a0, its own stack's end in sp, its number in tp, and the rest 0.
 -- (The registers' names are the RISC-V ELF psABI's.)
@@ -58,4 +58,4 @@ with_created memory (Some c) harts = harts ++ first_hart memory (length harts) c
 abbrev pub settled : Effect → Memory → ℕ → List Hart → List Hart
 settled e memory t harts =
     with_created memory e.created
-    (woken memory e.told e.woken (slice_set harts t (fated e.fate memory (hart_in harts t))))
+    (woken memory e.reported e.woken (slice_set harts t (fated e.fate memory (hart_in harts t))))

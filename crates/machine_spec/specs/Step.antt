@@ -4,7 +4,7 @@ use Rattle.std.specs.List.{list_all, list_any}
 use Rattle.isa_spec.specs.declared.Cause.TheVariants.{BadCall}
 use Rattle.isa_spec.specs.Registers.{Registers}
 use Rattle.memory_spec.specs.Pages.{Memory}
-use Rattle.memory_spec.specs.Stores.{laid}
+use Rattle.memory_spec.specs.Stores.{with_stores}
 use Rattle.guest_call.specs.declared.Call.{Call}
 use Rattle.guest_call.specs.declared.Fate.{Fate}
 use Rattle.guest_call.specs.declared.Fate.TheVariants.{Returns, Blocks, Ends, Exits}
@@ -93,7 +93,7 @@ finished m t memory regs e put = done_as_asked (written m t memory regs put) t (
 unfoldable pub step : Machine → ℕ → Machine
 step m t =
     let done = thunk m.frame (hart_of m t).view (hart_of m t).regs in
-    finished m t (laid m.frame.map m.memory done.stores) done.regs done.end done.put
+    finished m t (with_stores m.frame.map m.memory done.stores) done.regs done.end done.put
 
 -- One record in a step's place: its masked bytes are written into shared memory.
 unfoldable pub apply : Machine → Record → Machine

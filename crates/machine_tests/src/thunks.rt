@@ -100,25 +100,25 @@ impl Watch for CountingWatch {
 }
 
 /// The turns of the first thunk of a guest with this code, and how often it calls its watch.
-fn times_told<R: Threads>(
+fn times_called<R: Threads>(
     rt: &R,
     alloc: Global,
     code: &[u8],
     fuel: u32,
 ) -> Result<(u32, u64), AllocError> {
-    let told = CountingWatch {
+    let reported = CountingWatch {
         times: AtomicU64::new(0),
     };
     let job = job_of(alloc, code, fuel)?;
-    let run = execute_watched(alloc, &job, &mut Turns::new(rt), &told)?;
-    Ok((run.rec.count(), told.times.load(Ordering::SeqCst)))
+    let run = execute_watched(alloc, &job, &mut Turns::new(rt), &reported)?;
+    Ok((run.rec.count(), reported.times.load(Ordering::SeqCst)))
 }
 
 #[test]
-fn a_long_thunk_tells_its_watch_once(rt: HostRuntime) -> Result<(), AllocError> {
-    assert!(&rt; times_told(&rt, rt.alloc(), &HI[84..], 1_000_000)? == (5, 0));
+fn a_long_thunk_reports_to_its_watch_once(rt: HostRuntime) -> Result<(), AllocError> {
+    assert!(&rt; times_called(&rt, rt.alloc(), &HI[84..], 1_000_000)? == (5, 0));
     for (fuel, times) in [(LONG_TURNS, 0), (LONG_TURNS + 1, 1), (1_000_000, 1)] {
-        assert!(&rt; times_told(&rt, rt.alloc(), &LOOP, fuel)? == (fuel, times));
+        assert!(&rt; times_called(&rt, rt.alloc(), &LOOP, fuel)? == (fuel, times));
     }
     Ok(())
 }

@@ -2,15 +2,15 @@
 use Rattle.std.proofs.Common.{◌≡◌, ◌⊎◌, ℕ, Bool, true, false, cond, ◌||◌, List, [], ◌∷◌, ◌++◌, Option, Some, refl, sym, ap, ◌∙◌, inl, inr}
 use Rattle.std.specs.Prelude.{bytes_eq, is_some}
 use Rattle.memo_spec.specs.Encoding.{has_page}
-use Rattle.memo_spec.proofs.Pool.{bytes_tell}
+use Rattle.memo_spec.proofs.Pool.{bytes_determine}
 
 abbrev Piece : Type 0
 Piece = List ℕ
 
 same_either_way : (a b : List ℕ) → bytes_eq a b ≡ bytes_eq b a
-same_either_way a b = elim (bytes_tell a b) [
+same_either_way a b = elim (bytes_determine a b) [
   | inl h ↦ ap (λ (x : List ℕ). bytes_eq a x) (sym h.1) ∙ ap (λ (x : List ℕ). bytes_eq x a) h.1
-  | inr h ↦ other h.0 h.1 (bytes_tell b a)
+  | inr h ↦ other h.0 h.1 (bytes_determine b a)
 ]
   where
     other : bytes_eq a b ≡ false → (a ≡ b → ⊥) → ((bytes_eq b a ≡ true) × (b ≡ a))

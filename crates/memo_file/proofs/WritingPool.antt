@@ -13,7 +13,7 @@ use Rattle.thunk_spec.specs.Reads.{ReadPage}
 use Rattle.history_spec.specs.History.{History}
 use Rattle.memo_spec.specs.Encoding.{has_page, with_page, index_in, pages_read, pool_of}
 use Rattle.memo_spec.proofs.Order.{Pages, has_in_front, index_push, index_new, fold_front, fold_append, write_step}
-use Rattle.memo_spec.proofs.Pool.{bytes_tell}
+use Rattle.memo_spec.proofs.Pool.{bytes_determine}
 use Rattle.memo_file.specs.WritingPool.{pages_lent, bytes_read, places_from, StandsAt, IsIndexed, IsPoolOf}
 use Rattle.memo_file.proofs.Seeing.{has_push}
 
@@ -34,7 +34,7 @@ index_of_new :
     → new ≡ cond (bytes_eq p q) (Some (length pool)) old
     → new ≡ cond (has_page (pool ++ p ∷ []) q) (Some (index_in (pool ++ p ∷ []) q)) None
 index_of_new pool p q new old fresh o n =
-    elim (bytes_tell p q) [ inl h ↦ same h.0 h.1 | inr h ↦ other h.0 (has_page pool q) refl ]
+    elim (bytes_determine p q) [ inl h ↦ same h.0 h.1 | inr h ↦ other h.0 (has_page pool q) refl ]
   where
     there : bytes_eq p q ≡ true → has_page (pool ++ p ∷ []) q ≡ true
     there h = has_push pool p q ∙ rw h refl
@@ -207,13 +207,13 @@ lent_stands pool place page other d b lt is e t =
     record {
       within = omega (arith, below, length-map pool (λ (p : Bor (List ℕ)). p.now));
       same = lent_at pool place d below ∙ ap (λ (p : Bor (List ℕ)). p.now) (sym is)
-          ∙ told (bytes_tell other.now page) (sym e ∙ t);
+          ∙ reported (bytes_determine other.now page) (sym e ∙ t);
     }
   where
-    told : ((bytes_eq other.now page ≡ true) × (other.now ≡ page)) ⊎
+    reported : ((bytes_eq other.now page ≡ true) × (other.now ≡ page)) ⊎
         ((bytes_eq other.now page ≡ false) × (other.now ≡ page → ⊥)) → bytes_eq other.now page ≡ true → other.now ≡ page
-    told (inl h) t = h.1
-    told (inr h) t = absurd (differ (sym h.0 ∙ t))
+    reported (inl h) t = h.1
+    reported (inr h) t = absurd (differ (sym h.0 ∙ t))
       where
         differ : false ≡ true → ⊥
         differ e = cc

@@ -4,7 +4,7 @@ ghost use Rattle.std.specs.Prelude.{◌≡◌, ◌<◌, ◌+◌, true, false, ta
 ghost use Rattle.std.specs.List.{count_by};
 ghost use Rattle.memory_spec.specs.Pages.{AreAddressable};
 ghost use Rattle.machine_spec.specs.Setup.{IsSetup, map_of};
-ghost use Rattle.memo_spec.specs.Old.{is_of_m, stored_byte, read_byte, told_byte, whole_word, told_word, ends_at_m, is_before_m, ends_at_lock, is_before_locks, last_number};
+ghost use Rattle.memo_spec.specs.Old.{is_of_m, stored_byte, read_byte, known_byte, whole_word, known_word, ends_at_m, is_before_m, ends_at_lock, is_before_locks, last_number};
 ghost use Rattle.memo_spec.specs.Reading.{is_old_in};
 ghost use Rattle.memo_spec.specs.declared.Refusal.TheVariants.{Old};
 ghost use Rattle.memo_file.specs.declared.error.ReadError.TheVariants.{Refused};
@@ -80,9 +80,9 @@ fn read_byte(pages: &[ReadPage], slot: usize, offset: usize) -> Option<u8>
 
 /// The byte at an address that a record gives, as it was after its thunk: one that was stored, or else one that was
 /// read.
-fn told_byte(slots: &PageMap, rec: &Record, address: u64) -> Option<u8>
+fn known_byte(slots: &PageMap, rec: &Record, address: u64) -> Option<u8>
     requires { AreAddressable slots.now }
-    ensures { result ≡ told_byte slots.now rec.now.kept address }
+    ensures { result ≡ known_byte slots.now rec.now.kept address }
 {
     let slot = slot_or_end(slots, address);
     let offset = (address % PAGE_SIZE as u64) as usize;
@@ -108,16 +108,16 @@ fn whole_word(a: Option<u8>, b: Option<u8>, c: Option<u8>, d: Option<u8>) -> Opt
 }
 
 /// The word at an address that a record gives, if it gives each of its bytes.
-fn told_word(slots: &PageMap, rec: &Record, address: u32) -> Option<u32>
+fn known_word(slots: &PageMap, rec: &Record, address: u32) -> Option<u32>
     requires { AreAddressable slots.now }
-    ensures { result ≡ told_word slots.now rec.now.kept address }
+    ensures { result ≡ known_word slots.now rec.now.kept address }
 {
     let first = u64::from(address);
     whole_word(
-        told_byte(slots, rec, first),
-        told_byte(slots, rec, first + 1),
-        told_byte(slots, rec, first + 2),
-        told_byte(slots, rec, first + 3),
+        known_byte(slots, rec, first),
+        known_byte(slots, rec, first + 1),
+        known_byte(slots, rec, first + 2),
+        known_byte(slots, rec, first + 3),
     )
 }
 
@@ -127,7 +127,7 @@ fn ends_at_m(slots: &PageMap, rec: &Record) -> bool
     ensures { result ≡ ends_at_m slots.now rec.now }
 {
     match rec.end() {
-        ThunkEnd::Trap(Cause::IllegalInstruction) => match told_word(
+        ThunkEnd::Trap(Cause::IllegalInstruction) => match known_word(
             slots,
             rec,
             rec.finish().pc(),

@@ -12,7 +12,7 @@ ghost use Rattle.memo_file.specs.Gives.{Fails, Gives, IsReadAs};
 ghost use Rattle.memo_file.specs.Wholes.{uses_all};
 
 use crate::age::refuse_old;
-use crate::coherence::hold_together;
+use crate::coherence::refuse_incoherent;
 use crate::error::ReadError;
 use crate::fields::{limited, word, word_that_is};
 use crate::growth::Sources;
@@ -112,7 +112,7 @@ fn judge(core: Core, history: &History, format: Format) -> Result<(), ReadError>
     ensures { Gives (λ _. history.now) result (todays format history.now) }
 {
     refuse_old(format, core.frame().map(), history)?;
-    hold_together(core, history)
+    refuse_incoherent(core, history)
 }
 
 /// A reader after the magic number and the version.

@@ -153,9 +153,9 @@ pub row-next :
     → row' ≡ row ++ found
     → found ≡ cond (is_race fs reads i j t.slot) (race_at fs i j t.slot ∷ []) []
     → row' ≡ before ++ so_far fs reads i j touches (m + 1)
-row-next fs reads i j m touches t row row' before found less at is more told =
+row-next fs reads i j m touches t row row' before found less at is more reported =
     more
-    ∙ ap₂ (λ (xs ys : List Race). xs ++ ys) is told
+    ∙ ap₂ (λ (xs ys : List Race). xs ++ ys) is reported
     ∙ append_assoc before (so_far fs reads i j touches m) (cond (is_race fs reads i j t.slot) (race_at fs i j t.slot ∷ []) [])
     ∙ ap (λ (rs : List Race). before ++ rs) (sym (more-so_far fs reads i j touches m t less at))
 

@@ -12,7 +12,7 @@ use Rattle.history_spec.specs.Audit.{IsFirstFalseFrom, turns_from}
 use Rattle.memo_reports.specs.declared.audit.claims.Claim.{Claim}
 use Rattle.memo_reports.specs.declared.audit.verdict.Verdict.{Verdict}
 use Rattle.memo_reports.specs.Claims.{AreClaims, IsFoundIn, turns_in, first_of_both}
-use Rattle.memo_reports.proofs.Following.{IsSoFar, far-then, far-closed, far-nothing, claims-far, claims-turns, unlaid-unmade, drop-nil, front-of}
+use Rattle.memo_reports.proofs.Following.{IsSoFar, far-then, far-closed, far-nothing, claims-far, claims-turns, unstored-unmade, drop-nil, front-of}
 
 -- So many records were applied, which led to a machine, and what was found in them tells of all.
 pub record IsAuditedTo (m : Machine) (rs : List Record) (place : ℕ) (core : Machine) (found : Verdict) : Type 0 where
@@ -89,7 +89,7 @@ audited-stuck m rs place core found then so lt stuck first sum =
     record {
       first = subst (IsFirstFalseFrom m rs) (sym first)
           (far-closed (IsFirstFalseFrom m rs) (IsFirstFalseFrom core (drop place rs)) place found.first (Some 0) so.so_far
-          (subst (λ (l : List Record). IsFirstFalseFrom core l (Some 0)) (sym f.are) (unlaid-unmade core f.r cannot)));
+          (subst (λ (l : List Record). IsFirstFalseFrom core l (Some 0)) (sym f.are) (unstored-unmade core f.r cannot)));
       turns = omega (arith, so.turns, none, sum);
     }
 

@@ -122,12 +122,12 @@ module _ (fs : List Fact) (reads : List (List ℕ)) (pages j : ℕ) (s : Step) (
       (take n s.touches.items)
 
   -- an access before races just where the two steps do
-  pub race-told :
+  pub race-reported :
       (t : Touch) → IsTouched (fact_at fs j).written (read_at reads j) pages t
       → (i : ℕ) → i < j
       → (touches_at fs reads i t.slot && races_with s t.writes (access_at fs t.slot i)) ≡ is_race fs reads i j t.slot
   unfolding is_race
-  race-told t touched i early =
+  race-reported t touched i early =
       let low : ltb i j ≡ true = grind (arith, nat_tests) in
       let thread : eqb (fact_at fs i).thread s.thread ≡ eqb (fact_at fs i).thread (fact_at fs j).thread =
       ap (eqb (fact_at fs i).thread) is.thread in
@@ -162,18 +162,18 @@ module _ (fs : List Fact) (reads : List (List ℕ)) (pages j : ℕ) (s : Step) (
       let none = own-none t.slot n t.writes in
       let same =
       tally-same (λ i. touches_at fs reads i t.slot && races_with s t.writes (access_at fs t.slot i))
-      (λ i. is_race fs reads i j t.slot) j (race-told t touched) in
+      (λ i. is_race fs reads i j t.slot) j (race-reported t touched) in
       omega arith
 
   -- of each step before at most one access races with it for a page, where the two steps race
-  pub row-told :
+  pub row-reported :
       (t : Touch) (n : ℕ) (page : PagePast)
       → IsTouched (fact_at fs j).written (read_at reads j) pages t
       → HasPast fs reads t.slot j n s page
       → (i : ℕ) → i < j
       → races_in i j t (filter (races_with s t.writes) (accesses_of page))
       ≡ cond (is_race fs reads i j t.slot) (race_at fs i j t.slot ∷ []) []
-  row-told t n page touched has i early =
+  row-reported t n page touched has i early =
       one-listed (race_with j t) (race_at fs i j t.slot) (is_same fs t.slot i)
       (filter (λ (a : Access). eqb a.place i) (filter (races_with s t.writes) (accesses_of page)))
       (is_race fs reads i j t.slot)
@@ -197,7 +197,7 @@ module _ (fs : List Fact) (reads : List (List ℕ)) (pages j : ℕ) (s : Step) (
           (λ k less.
           turned (touches_at fs reads k t.slot) (races_with s t.writes (access_at fs t.slot k)) (eqb k i)
           (r (access_at fs t.slot k))
-          ∙ ap (λ (b : Bool). (b && r (access_at fs t.slot k)) && eqb k i) (race-told t touched k less))
+          ∙ ap (λ (b : Bool). (b && r (access_at fs t.slot k)) && eqb k i) (race-reported t touched k less))
           ∙ tally-one (λ k. is_race fs reads k j t.slot && r (access_at fs t.slot k)) i j early
           ∙ ap (λ (b : Bool). bit (is_race fs reads i j t.slot && b)) here
           ∙ ap bit (and-true (is_race fs reads i j t.slot)))

@@ -17,15 +17,15 @@ use Rattle.memo_reports.specs.Claims.{IsTrueClaim, made_by, turns_in, IsFirstIn,
 claim-made : (m : Machine) (r : Record) (c : Claim) → can_apply m r ≡ true → IsClaimOf m r c → IsTrueClaim c → IsMade m r
 claim-made m r c can is true_claim = record {
   can = fits-can_step m r (and-left (is_none m.ending) (fits m r) can) (and-right (is_none m.ending) (fits m r) can);
-  made = sym is.told ∙ true_claim ∙ is.makes;
+  made = sym is.reported ∙ true_claim ∙ is.makes;
 }
 
 made-claim : (m : Machine) (r : Record) (c : Claim) → IsClaimOf m r c → IsMade m r → IsTrueClaim c
-made-claim m r c is made = is.told ∙ made.made ∙ sym is.makes
+made-claim m r c is made = is.reported ∙ made.made ∙ sym is.makes
 
 -- a record that can't be applied isn't as the machine makes it
-pub unlaid-unmade : (m : Machine) (r : Record) → can_apply m r ≡ false → IsMade m r → ⊥
-unlaid-unmade m r cannot made =
+pub unstored-unmade : (m : Machine) (r : Record) → can_apply m r ≡ false → IsMade m r → ⊥
+unstored-unmade m r cannot made =
     let none : is_none m.ending ≡ true = and-left (is_none m.ending) _ made.can in
     let ready = and-right (is_none m.ending) _ made.can in
     let fit : fits m r ≡ true = subst (λ (x : Record). fits m x ≡ true) (sym made.made) (record-fits m r.thread ready) in

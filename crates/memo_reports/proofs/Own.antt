@@ -21,16 +21,16 @@ all-same P Q (x ∷ xs) more all = (more x all.0, all-same P Q xs more all.1)
 
 -- which accesses of a thread race with one of a later step
 
-told-apart :
+reported-apart :
     (s : Step) (w : Bool) (t : ℕ) (a : Access) → a.thread ≡ t → eqb t s.thread ≡ false
     → ((w || a.writes) && not (ltb a.number (slice_index s.seen t))) ≡ races_with s w a
-told-apart s w t a is apart =
+reported-apart s w t a is apart =
     let no : eqb a.thread s.thread ≡ false = ap (λ (u : ℕ). eqb u s.thread) is ∙ apart in
     rw no (ap (λ (u : ℕ). (w || a.writes) && not (ltb a.number (slice_index s.seen u))) (sym is))
 
-told-same :
+reported-same :
     (s : Step) (w : Bool) (t : ℕ) (a : Access) → a.thread ≡ t → eqb t s.thread ≡ true → false ≡ races_with s w a
-told-same s w t a is same =
+reported-same s w t a is same =
     let yes : eqb a.thread s.thread ≡ true = ap (λ (u : ℕ). eqb u s.thread) is ∙ same in
     rw yes refl
 
@@ -45,24 +45,24 @@ none-racing p s w is same =
     sym (filter-nothing p.all.items)
     ∙ filter-same (λ (a : Access). false) (races_with s w) p.all.items
     (all-same (λ (a : Access). a.thread ≡ p.thread) (λ (a : Access). false ≡ races_with s w a) p.all.items
-    (λ a of. told-same s w p.thread a of same)
+    (λ a of. reported-same s w p.thread a of same)
     (recursion_from_All (λ (a : Access). a.thread ≡ p.thread) p.all.items is.threads))
 
-racing-told :
+racing-reported :
     (p : ThreadPast) (s : Step) (w : Bool) → IsThreadPast p → eqb p.thread s.thread ≡ false
     → filter (λ (a : Access). (w || a.writes) && not (ltb a.number (slice_index s.seen p.thread))) p.all.items
     ≡ filter (races_with s w) p.all.items
-racing-told p s w is apart =
+racing-reported p s w is apart =
     filter-same (λ (a : Access). (w || a.writes) && not (ltb a.number (slice_index s.seen p.thread))) (races_with s w) p.all.items
     (all-same (λ (a : Access). a.thread ≡ p.thread)
     (λ (a : Access). ((w || a.writes) && not (ltb a.number (slice_index s.seen p.thread))) ≡ races_with s w a) p.all.items
-    (λ a of. told-apart s w p.thread a of apart)
+    (λ a of. reported-apart s w p.thread a of apart)
     (recursion_from_All (λ (a : Access). a.thread ≡ p.thread) p.all.items is.threads))
 
 pub racing-all :
     (p : ThreadPast) (s : Step) (w : Bool) → IsThreadPast p → eqb p.thread s.thread ≡ false → w ≡ true
     → filter (λ (a : Access). not (ltb a.number (slice_index s.seen p.thread))) p.all.items ≡ filter (races_with s w) p.all.items
-racing-all p s true is apart writes = racing-told p s true is apart
+racing-all p s true is apart writes = racing-reported p s true is apart
 racing-all p s false is apart writes = cc
 
 pub racing-writing :
@@ -72,7 +72,7 @@ racing-writing p s true is apart writes = cc
 racing-writing p s false is apart writes =
     ap (filter (λ (a : Access). not (ltb a.number (slice_index s.seen p.thread)))) is.writing
     ∙ filter-both (λ (a : Access). not (ltb a.number (slice_index s.seen p.thread))) (λ (a : Access). a.writes) p.all.items
-    ∙ racing-told p s false is apart
+    ∙ racing-reported p s false is apart
 
 -- the accesses of one thread more
 pub flat-more :

@@ -25,7 +25,7 @@ IsTrueClaim c = arc_value c.rec ≡ made_by c
 
 -- A claim of this record, whose job is the next step of the record's thread.
 pub record IsClaimOf (m : Machine) (r : Record) (c : Claim) : Type 0 where
-  pub told : arc_value c.rec ≡ r
+  pub reported : arc_value c.rec ≡ r
   pub makes : made_by c ≡ record_of m r.thread
 
 -- Claims of the first of some records, each of which can be applied after those before it, and the machine after them.

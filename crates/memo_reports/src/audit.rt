@@ -5,9 +5,9 @@ mod auditing;
 mod claims;
 mod executing;
 mod same;
-mod telling;
 mod verdict;
+mod wording;
 
 pub use auditing::audit;
-pub use telling::text;
 pub use verdict::Verdict;
+pub use wording::text;

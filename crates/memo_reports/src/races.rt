@@ -6,9 +6,9 @@ mod list;
 mod past;
 mod rows;
 mod steps;
-mod telling;
 mod touches;
+mod wording;
 
 pub use finding::races;
 pub use list::{RaceList, Races};
-pub use telling::listing;
+pub use wording::listing;

@@ -17,7 +17,7 @@ use Rattle.memo_spec.specs.declared.Format.TheVariants.{Version1, Version2}
 use Rattle.memo_spec.specs.declared.Refusal.TheVariants as refusal
 use Rattle.memo_spec.specs.Encoding.{distinct, end_number, mask, record_bytes, body, magic}
 use Rattle.memo_spec.specs.Reading.{behind_version, incoherent_from, taken_as, reading}
-use Rattle.memo_spec.specs.Old.{is_of_m, told_word, last_ends_at_m}
+use Rattle.memo_spec.specs.Old.{is_of_m, known_word, last_ends_at_m}
 
 -- A page that stands twice among the read pages stands once in the pool, where it came first.
 pub distinct-two :
@@ -176,30 +176,30 @@ abbrev pub elsewhere : List ReadPage
 elsewhere = record { slot = 1; bytes = 7 ∷ 7 ∷ 7 ∷ 7 ∷ [] } ∷ []
 
 -- The word is told by what was read; by what was read under what was stored; and by what was stored alone.
-pub told-read : told_word pages (illegal (read mul) []).kept 0x10000 ≡ Some 0x02B50533
-told-read = refl
+pub reported-read : known_word pages (illegal (read mul) []).kept 0x10000 ≡ Some 0x02B50533
+reported-read = refl
 
-pub told-both :
-    told_word pages
+pub reported-both :
+    known_word pages
     (illegal (read (0x33 ∷ 0x05 ∷ 0xB5 ∷ 0x00 ∷ []))
     (stored (false ∷ true ∷ false ∷ true ∷ []) (0x55 ∷ 0x02 ∷ []))).kept
     0x10000
     ≡ Some 0x02B55533
-told-both = refl
+reported-both = refl
 
-pub told-stored :
-    told_word pages (illegal elsewhere (stored (true ∷ true ∷ true ∷ true ∷ []) mul)).kept 0x10000 ≡ Some 0x02B50533
-told-stored = refl
+pub reported-stored :
+    known_word pages (illegal elsewhere (stored (true ∷ true ∷ true ∷ true ∷ []) mul)).kept 0x10000 ≡ Some 0x02B50533
+reported-stored = refl
 
 -- Where a byte is neither read nor stored no word is told, nor is one where the next page would go on and isn't mapped.
-pub told-none :
-    told_word pages (illegal elsewhere (stored (true ∷ true ∷ false ∷ true ∷ []) (0x33 ∷ 0x05 ∷ 0x02 ∷ []))).kept
+pub reported-none :
+    known_word pages (illegal elsewhere (stored (true ∷ true ∷ false ∷ true ∷ []) (0x33 ∷ 0x05 ∷ 0x02 ∷ []))).kept
     0x10000
     ≡ None
-told-none = refl
+reported-none = refl
 
-pub told-past : told_word pages (illegal (read (replicate 4094 0 ++ 0x33 ∷ 0x05 ∷ [])) []).kept 0x10FFE ≡ None
-told-past = refl
+pub reported-past : known_word pages (illegal (read (replicate 4094 0 ++ 0x33 ∷ 0x05 ∷ [])) []).kept 0x10FFE ≡ None
+reported-past = refl
 
 -- An end by an illegal instruction at a word of M comes from before M.
 pub old-read : last_ends_at_m pages (illegal (read mul) [] ∷ []) ≡ true

@@ -19,7 +19,7 @@ use Rattle.memo_spec.specs.Encoding.{magic, word, body, memo_in, memo, IsEncodab
 use Rattle.memo_spec.specs.Old.{last_number}
 use Rattle.memo_spec.specs.Reading.{behind_version, incoherent_from, coherent_or, is_old_in, todays, ended, taken_as, version_of, format_of, reading_in, reading, IsTaken}
 use Rattle.memo_spec.proofs.Formats.{IsBytes, IsBytes-drop, IsBytes-take, wide32, behind, ok_is}
-use Rattle.memo_spec.proofs.Pool.{bytes_tell}
+use Rattle.memo_spec.proofs.Pool.{bytes_determine}
 use Rattle.memo_spec.proofs.Top.{number, first_eight, rest_bytes, body_is, agrees_behind}
 
 abbrev opens : List ℕ → Place
@@ -41,7 +41,7 @@ body_taken format h fit =
     ∙ ap (ended format) (read_again format h fit)
 
 same_bytes : (xs : List ℕ) → bytes_eq xs xs ≡ true
-same_bytes xs = elim (bytes_tell xs xs) [ inl h ↦ h.0 | inr h ↦ absurd (h.1 refl) ]
+same_bytes xs = elim (bytes_determine xs xs) [ inl h ↦ h.0 | inr h ↦ absurd (h.1 refl) ]
 
 digest_parts : (text : List ℕ) → (take (length (text ++ sha256 text) - 32) (text ++ sha256 text) ≡ text)
     × (drop (length (text ++ sha256 text) - 32) (text ++ sha256 text) ≡ sha256 text)
@@ -193,7 +193,7 @@ not_false true e = refl
 not_false false e = absurd cc
 
 equal_bytes : (xs ys : List ℕ) → not (bytes_eq xs ys) ≡ false → xs ≡ ys
-equal_bytes xs ys e = elim (bytes_tell xs ys) [ inl h ↦ h.1 | inr h ↦ absurd (differ (bytes_eq xs ys) h.0 e) ]
+equal_bytes xs ys e = elim (bytes_determine xs ys) [ inl h ↦ h.1 | inr h ↦ absurd (differ (bytes_eq xs ys) h.0 e) ]
   where
     differ : (b : Bool) → b ≡ false → not b ≡ false → ⊥
     differ true p q = absurd cc

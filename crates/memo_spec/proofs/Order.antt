@@ -6,7 +6,7 @@ use Rattle.std.proofs.lemmas.Bool.{ltb-true, lt-ltb, le-ltb, ne_eqb, cases_lt}
 use Rattle.std.proofs.lemmas.List.{append-nil, length-append}
 use Rattle.memo_spec.specs.Encoding.{AreBytes, has_page, with_page, index_in}
 use Rattle.memo_spec.specs.Reading.{used_after}
-use Rattle.memo_spec.proofs.Pool.{bytes_tell, index_back}
+use Rattle.memo_spec.proofs.Pool.{bytes_determine, index_back}
 
 Page : Type 0
 Page = List ℕ
@@ -30,7 +30,7 @@ step a b = elim (cases_lt a b) [
 -- A page is in the front of a pool exactly where its index is there.
 pub has_in_front : (s t : Pages) (page : List ℕ) → has_page s page ≡ ltb (index_in (s ++ t) page) (length s)
 has_in_front [] t page = sym (le-ltb (index_in t page) 0 (omega arith))
-has_in_front (p ∷ s) t page = elim (bytes_tell page p) [ inl h ↦ here h.0 | inr h ↦ later h.0 (has_in_front s t page) ]
+has_in_front (p ∷ s) t page = elim (bytes_determine page p) [ inl h ↦ here h.0 | inr h ↦ later h.0 (has_in_front s t page) ]
   where
     here : bytes_eq page p ≡ true → has_page (p ∷ s) page ≡ ltb (index_in (p ∷ s ++ t) page) (length (p ∷ s))
     here h = rw h (sym (lt-ltb 0 (suc (length s)) (omega arith)))
@@ -44,7 +44,7 @@ has_in_front (p ∷ s) t page = elim (bytes_tell page p) [ inl h ↦ here h.0 | 
 front_index : (s t : Pages) (page : List ℕ) → index_in (s ++ t) page < length s
     → index_in s page ≡ index_in (s ++ t) page
 front_index [] t page lt = absurd (omega arith)
-front_index (p ∷ s) t page lt = elim (bytes_tell page p) [ inl h ↦ here h.0 | inr h ↦ later h.0 (front_index s t page) ]
+front_index (p ∷ s) t page lt = elim (bytes_determine page p) [ inl h ↦ here h.0 | inr h ↦ later h.0 (front_index s t page) ]
   where
     here : bytes_eq page p ≡ true → index_in (p ∷ s) page ≡ index_in (p ∷ s ++ t) page
     here h = rw h refl
@@ -59,7 +59,7 @@ front_index (p ∷ s) t page lt = elim (bytes_tell page p) [ inl h ↦ here h.0 
 -- What comes behind a pool doesn't move what is in it.
 pub index_push : (s t : Pages) (page : List ℕ) → index_in s page < length s → index_in (s ++ t) page ≡ index_in s page
 index_push [] t page lt = absurd (omega arith)
-index_push (p ∷ s) t page lt = elim (bytes_tell page p) [ inl h ↦ here h.0 | inr h ↦ later h.0 (index_push s t page) ]
+index_push (p ∷ s) t page lt = elim (bytes_determine page p) [ inl h ↦ here h.0 | inr h ↦ later h.0 (index_push s t page) ]
   where
     here : bytes_eq page p ≡ true → index_in (p ∷ s ++ t) page ≡ index_in (p ∷ s) page
     here h = rw h refl
@@ -73,12 +73,12 @@ index_push (p ∷ s) t page lt = elim (bytes_tell page p) [ inl h ↦ here h.0 |
 
 -- The index of a new page that comes last, whatever follows.
 pub index_new : (s t : Pages) (page : List ℕ) → has_page s page ≡ false → index_in (s ++ page ∷ t) page ≡ length s
-index_new [] t page h = elim (bytes_tell page page) [ inl k ↦ here k.0 | inr k ↦ absurd (k.1 refl) ]
+index_new [] t page h = elim (bytes_determine page page) [ inl k ↦ here k.0 | inr k ↦ absurd (k.1 refl) ]
   where
     here : bytes_eq page page ≡ true → index_in (page ∷ t) page ≡ 0
     here k = rw k refl
 index_new (p ∷ s) t page h =
-    elim (bytes_tell page p) [ inl k ↦ absurd (there k.0 h) | inr k ↦ later k.0 h (index_new s t page) ]
+    elim (bytes_determine page p) [ inl k ↦ absurd (there k.0 h) | inr k ↦ later k.0 h (index_new s t page) ]
   where
     there : bytes_eq page p ≡ true → has_page (p ∷ s) page ≡ false → ⊥
     there k e = let f : true ≡ false = sym (rw k refl) ∙ e in absurd cc

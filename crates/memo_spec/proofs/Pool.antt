@@ -6,12 +6,12 @@ use Rattle.std.proofs.lemmas.Bool.Decides.{eqb_tells}
 use Rattle.memo_spec.specs.Encoding.{AreBytes, index_in}
 
 -- A test of bytes tells whether they are the same.
-pub bytes_tell : (xs ys : List ℕ) → ((bytes_eq xs ys ≡ true) × (xs ≡ ys)) ⊎ ((bytes_eq xs ys ≡ false) × (xs ≡ ys → ⊥))
-bytes_tell [] [] = inl (refl, refl)
-bytes_tell [] (y ∷ ys) = inr (refl, λ e. absurd (omega (arith, ap length e)))
-bytes_tell (x ∷ xs) [] = inr (refl, λ e. absurd (omega (arith, ap length e)))
-bytes_tell (x ∷ xs) (y ∷ ys) = elim (eqb_tells x y) [
-  | inl h ↦ rest (bytes_tell xs ys) h.0 h.1
+pub bytes_determine : (xs ys : List ℕ) → ((bytes_eq xs ys ≡ true) × (xs ≡ ys)) ⊎ ((bytes_eq xs ys ≡ false) × (xs ≡ ys → ⊥))
+bytes_determine [] [] = inl (refl, refl)
+bytes_determine [] (y ∷ ys) = inr (refl, λ e. absurd (omega (arith, ap length e)))
+bytes_determine (x ∷ xs) [] = inr (refl, λ e. absurd (omega (arith, ap length e)))
+bytes_determine (x ∷ xs) (y ∷ ys) = elim (eqb_tells x y) [
+  | inl h ↦ rest (bytes_determine xs ys) h.0 h.1
   | inr h ↦ inr (rw h.0 refl, λ e. h.1 (ap (λ (l : List ℕ). get_or l 0 0) e))
 ]
   where
@@ -30,7 +30,7 @@ pub record IsPool (pool : List (List ℕ)) : Type 0 where
 pub index_back : (pool : List (List ℕ)) (page : List ℕ) → index_in pool page < length pool
     → slice_index_or pool (index_in pool page) [] ≡ page
 index_back [] page lt = absurd (omega arith)
-index_back (p ∷ pool) page lt = elim (bytes_tell page p) [
+index_back (p ∷ pool) page lt = elim (bytes_determine page p) [
   | inl h ↦ at_first h.0 h.1
   | inr h ↦ one_more h.0 (index_back pool page)
 ]

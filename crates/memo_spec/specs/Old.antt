@@ -41,8 +41,8 @@ first_there (Some a) other = Some a
 first_there None other = other
 
 -- The byte that a record has of an address, as it was after its thunk: one that was stored, or else one that was read.
-abbrev pub told_byte : List Mapped → Kept → ℕ → Option ℕ
-told_byte map kept address =
+abbrev pub known_byte : List Mapped → Kept → ℕ → Option ℕ
+known_byte map kept address =
     first_there
     (stored_byte kept.delta (slot_of map address) (address % PAGE_SIZE))
     (read_byte kept.reads (slot_of map address) (address % PAGE_SIZE))
@@ -53,10 +53,10 @@ whole_word (Some a) (Some b) (Some c) (Some d) = Some (a + b * 2 ^ 8 + c * 2 ^ 1
 whole_word _ _ _ _ = None
 
 -- The word that a record has of an address, if it has each of its bytes.
-abbrev pub told_word : List Mapped → Kept → ℕ → Option ℕ
-told_word map kept address =
-    whole_word (told_byte map kept address) (told_byte map kept (address + 1)) (told_byte map kept (address + 2))
-    (told_byte map kept (address + 3))
+abbrev pub known_word : List Mapped → Kept → ℕ → Option ℕ
+known_word map kept address =
+    whole_word (known_byte map kept address) (known_byte map kept (address + 1)) (known_byte map kept (address + 2))
+    (known_byte map kept (address + 3))
 
 -- Whether an end is that by an illegal instruction.
 abbrev pub is_illegal : ThunkEnd → Bool
@@ -64,13 +64,13 @@ is_illegal (Trap IllegalInstruction) = true
 is_illegal _ = false
 
 -- Whether a word is there, and is an instruction of M.
-abbrev pub tells_m : Option ℕ → Bool
-tells_m None = false
-tells_m (Some w) = is_of_m w
+abbrev pub is_known_of_m : Option ℕ → Bool
+is_known_of_m None = false
+is_known_of_m (Some w) = is_of_m w
 
 -- Whether a record ended by an illegal instruction, and the word that it has there is one of M.
 abbrev pub ends_at_m : List Mapped → Record → Bool
-ends_at_m map r = is_illegal r.kept.end && tells_m (told_word map r.kept r.kept.finish.pc)
+ends_at_m map r = is_illegal r.kept.end && is_known_of_m (known_word map r.kept r.kept.finish.pc)
 
 -- Whether the last of some records is such a record.
 abbrev pub last_ends_at_m : List Mapped → List Record → Bool

@@ -2,7 +2,7 @@
 use Rattle.std.proofs.Common.{◌≡◌, true, false, List, [], ◌∷◌, Some, None, refl}
 use Rattle.memory_spec.specs.declared.Size.TheVariants.{One, Two, Four}
 use Rattle.memory_spec.specs.Pages.{Mapped, Memory, slot_of, permission_at, allows, read_right, write_right, execute_right, ascends_above}
-use Rattle.memory_spec.specs.Stores.{StoredByte, with_byte, laid}
+use Rattle.memory_spec.specs.Stores.{StoredByte, with_byte, with_stores}
 use Rattle.memory_spec.specs.Access.{loaded, fetched, may_store, bytes_stored, number_in, number_at}
 use Rattle.memory_spec.specs.Workspace.{Masks, with_mark, marked, taken_at}
 
@@ -92,17 +92,17 @@ bytes_stored-byte = refl
 abbrev pub two_stores : List StoredByte
 two_stores = record { address = 0x11001; byte = 1 } ∷ record { address = 0x11001; byte = 2 } ∷ []
 
-pub laid-in_order :
-    laid map memory two_stores
+pub with_stores-in_order :
+    with_stores map memory two_stores
     ≡ (0x37 ∷ 0x05 ∷ 0x01 ∷ 0x00 ∷ 0x13 ∷ 0x05 ∷ 0x05 ∷ 0x02 ∷ []) ∷ (0x80 ∷ 2 ∷ 0x82 ∷ 0x83 ∷ 0x84 ∷ [])
     ∷ (9 ∷ 8 ∷ 7 ∷ 6 ∷ []) ∷ []
 unfolding with_byte
-laid-in_order = refl
+with_stores-in_order = refl
 
 -- a store where no page is mapped changes nothing
-pub laid-unmapped : laid map memory (record { address = 0x12001; byte = 1 } ∷ []) ≡ memory
+pub with_stores-unmapped : with_stores map memory (record { address = 0x12001; byte = 1 } ∷ []) ≡ memory
 unfolding with_byte
-laid-unmapped = refl
+with_stores-unmapped = refl
 
 abbrev pub clear : Masks
 clear = (false ∷ false ∷ []) ∷ (false ∷ false ∷ []) ∷ (false ∷ false ∷ []) ∷ []

@@ -1,3 +1,3 @@
 -- The files of lemmas and examples of this crate.
-pub mod Laid
+pub mod WithStores
 pub mod Examples

@@ -14,6 +14,6 @@ with_byte map memory s =
     (slice_set (page_of memory (slot_of map s.address)) (s.address % 4096) s.byte)
 
 -- A memory after stores, made in their order.
-abbrev pub laid : List Mapped → Memory → List StoredByte → Memory
-laid map memory [] = memory
-laid map memory (s ∷ stores) = laid map (with_byte map memory s) stores
+abbrev pub with_stores : List Mapped → Memory → List StoredByte → Memory
+with_stores map memory [] = memory
+with_stores map memory (s ∷ stores) = with_stores map (with_byte map memory s) stores

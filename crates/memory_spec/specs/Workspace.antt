@@ -5,7 +5,7 @@ use Rattle.memory_spec.specs.declared.Size.{Size}
 use Rattle.memory_spec.specs.declared.MemoryError.{MemoryError}
 use Rattle.memory_spec.specs.declared.MemoryError.TheVariants.{Access, NoMemory}
 use Rattle.memory_spec.specs.Pages.{Mapped, Memory, slot_of, on_each}
-use Rattle.memory_spec.specs.Stores.{StoredByte, laid}
+use Rattle.memory_spec.specs.Stores.{StoredByte, with_stores}
 use Rattle.memory_spec.specs.Access.{bytes_stored, may_store}
 
 -- For each slot, for each place of its page: was it stored to?
@@ -54,7 +54,7 @@ after_taking w addresses = record w { taken = taken_at w.map w.taken addresses }
 
 -- A workspace after stores.
 abbrev pub after_storing : Workspace → List StoredByte → Workspace
-after_storing w stores = record w { memory = laid w.map w.memory stores; stored = marked w.map w.stored stores }
+after_storing w stores = record w { memory = with_stores w.map w.memory stores; stored = marked w.map w.stored stores }
 
 -- Nothing changed, except that a byte of the page of this address may have been taken.
 abbrev pub TookAtMost : ℕ → Workspace → Workspace → Type 0

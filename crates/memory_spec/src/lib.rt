@@ -5,7 +5,7 @@
 
 ghost use Rattle.std.specs.Prelude.{List};
 ghost use Rattle.memory_spec.specs.Pages.{Mapped, Memory, IsMemory};
-ghost use Rattle.memory_spec.specs.Stores.{StoredByte, laid};
+ghost use Rattle.memory_spec.specs.Stores.{StoredByte, with_stores};
 
 /// How many bytes a page has.
 pub const PAGE_SIZE: usize = 4096;
@@ -37,5 +37,5 @@ pub enum MemoryError {
 pub fn stores_keep_the_shape()
     ensures { (map : List Mapped) (memory : Memory) (stores : List StoredByte)
         → IsMemory map memory
-        → IsMemory map (laid map memory stores) }
+        → IsMemory map (with_stores map memory stores) }
 {}

@@ -96,9 +96,9 @@ pub marked_there :
     → slice_index_or marks u true
     ≡ (slice_index_or (slice_set before place blocked) u true && not (list_any (λ w. w == u) woken)))
     → (u : ℕ) → slice_index_or marks u true ≡ false → waits_at after u ≡ 0
-marked_there o after e t place call before marks blocked f woken done kept there idle free here fate told queue marked =
+marked_there o after e t place call before marks blocked f woken done kept there idle free here fate reported queue marked =
     marked_after o after e t call before marks blocked done kept there idle free
-    (λ returned. grind (arith, nat_tests, waiting-le e.fate, fate, told, returned))
+    (λ returned. grind (arith, nat_tests, waiting-le e.fate, fate, reported, returned))
     (λ u. marked u
     ∙ ap (λ (n : ℕ). slice_index_or (slice_set before n blocked) u true && not (list_any (λ w. w == u) woken)) here
     ∙ ap (λ (q : List ℕ). slice_index_or (slice_set before t blocked) u true && not (list_any (λ w. w == u) q)) queue)

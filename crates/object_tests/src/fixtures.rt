@@ -102,7 +102,7 @@ fn are_threads(queue: &Queue, numbers: &[u8]) -> bool {
 /// Asserts that the caller returns this answer, and that these threads are woken.
 pub(super) fn assert_returns(rt: &impl Abort, effect: Effect, answer: u32, woken: &[u8]) {
     assert!(rt; effect.fate() == Fate::Returns(answer, None));
-    assert!(rt; effect.told().is_none());
+    assert!(rt; effect.reported().is_none());
     assert!(rt; are_threads(effect.woken(), woken));
 }
 

@@ -9,5 +9,5 @@ pub writes_stores :
     (before : Memory) (delta : List PageDelta) (after : Memory) → after ≡ masked before delta
     → WritesStores before delta after
 writes_stores before delta after is = record {
-  laid_is = λ map stores shape from. is ∙ ap (masked before) from ∙ masked-delta_of map before stores shape;
+  with_stores_is = λ map stores shape from. is ∙ ap (masked before) from ∙ masked-delta_of map before stores shape;
 }

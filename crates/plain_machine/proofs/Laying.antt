@@ -2,7 +2,7 @@
 use Rattle.std.proofs.Common.{◌≡◌, ◌≤◌, List, [], ◌∷◌, ◌++◌, length, refl, ap, ◌∙◌}
 use Rattle.std.proofs.lemmas.List.{set_past, length-set}
 use Rattle.memory_spec.specs.Pages.{Mapped, Memory, slot_of}
-use Rattle.memory_spec.specs.Stores.{StoredByte, with_byte, laid}
+use Rattle.memory_spec.specs.Stores.{StoredByte, with_byte, with_stores}
 use Rattle.memory_spec.specs.Access.{bytes_stored}
 use Rattle.memory_spec.specs.Workspace.{Masks, with_mark, marked}
 use Rattle.plain_machine.specs.Stored.{StoredNumber, bytes_of}
@@ -20,16 +20,16 @@ pub count_kept :
 unfolding with_byte
 count_kept map memory s = length-set memory (slot_of map s.address) _
 
-pub laid_count :
-    (map : List Mapped) (memory : Memory) (stores : List StoredByte) → length (laid map memory stores) ≡ length memory
-laid_count map memory [] = refl
-laid_count map memory (s ∷ stores) = laid_count map (with_byte map memory s) stores ∙ count_kept map memory s
+pub with_stores_count :
+    (map : List Mapped) (memory : Memory) (stores : List StoredByte) → length (with_stores map memory stores) ≡ length memory
+with_stores_count map memory [] = refl
+with_stores_count map memory (s ∷ stores) = with_stores_count map (with_byte map memory s) stores ∙ count_kept map memory s
 
-pub laid-append :
+pub with_stores-append :
     (map : List Mapped) (memory : Memory) (xs ys : List StoredByte)
-    → laid map memory (xs ++ ys) ≡ laid map (laid map memory xs) ys
-laid-append map memory [] ys = refl
-laid-append map memory (x ∷ xs) ys = laid-append map (with_byte map memory x) xs ys
+    → with_stores map memory (xs ++ ys) ≡ with_stores map (with_stores map memory xs) ys
+with_stores-append map memory [] ys = refl
+with_stores-append map memory (x ∷ xs) ys = with_stores-append map (with_byte map memory x) xs ys
 
 pub marked-append :
     (map : List Mapped) (masks : Masks) (xs ys : List StoredByte)

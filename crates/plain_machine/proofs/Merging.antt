@@ -3,12 +3,12 @@ use Rattle.std.proofs.Common.{◌≡◌, ℕ, zero, suc, ◌%◌, Bool, true, fa
 use Rattle.std.specs.List.{AllByRecursion}
 use Rattle.std.proofs.lemmas.List.Elements.{recursion_from_All}
 use Rattle.memory_spec.specs.Pages.{Mapped, Memory, IsMemory, slot_of, page_of, on_each}
-use Rattle.memory_spec.specs.Stores.{StoredByte, with_byte, laid}
+use Rattle.memory_spec.specs.Stores.{StoredByte, with_byte, with_stores}
 use Rattle.memory_spec.specs.Workspace.{Masks, no_marks, mask_of, with_mark, marked}
 use Rattle.memory_spec.specs.Access.{bytes_stored}
 use Rattle.plain_machine.specs.Stored.{StoredNumber, bytes_of}
 use Rattle.plain_machine.specs.Merging.{merged_page, merged}
-use Rattle.plain_machine.proofs.Laying.{laid-append, marked-append, bytes_of-more}
+use Rattle.plain_machine.proofs.Laying.{with_stores-append, marked-append, bytes_of-more}
 
 -- a byte stored and marked is a byte stored
 merged_page-set :
@@ -71,13 +71,13 @@ merged-byte map masks memory other s =
     ∙ ap (λ (page : List ℕ). set page o s.byte) (sym (merged-page_of masks memory other k)))
 
 -- stores are made on a memory by making and marking them on the one above it
-pub merged-laid :
+pub merged-with_stores :
     (map : List Mapped) (stores : List StoredByte) (masks : Masks) (memory other : Memory)
-    → merged (marked map masks stores) (laid map memory stores) other ≡ laid map (merged masks memory other) stores
-merged-laid map [] masks memory other = refl
-merged-laid map (s ∷ stores) masks memory other =
-    merged-laid map stores (with_mark map masks s) (with_byte map memory s) other
-    ∙ ap (λ (m : Memory). laid map m stores) (merged-byte map masks memory other s)
+    → merged (marked map masks stores) (with_stores map memory stores) other ≡ with_stores map (merged masks memory other) stores
+merged-with_stores map [] masks memory other = refl
+merged-with_stores map (s ∷ stores) masks memory other =
+    merged-with_stores map stores (with_mark map masks s) (with_byte map memory s) other
+    ∙ ap (λ (m : Memory). with_stores map m stores) (merged-byte map masks memory other s)
 
 merged_page-none :
     (n : ℕ) (page other : List ℕ) → length page ≡ n → length other ≡ n
@@ -116,30 +116,30 @@ merged-none map memory other a b =
     (recursion_from_All IsPage memory a.pages) (recursion_from_All IsPage other b.pages)
 
 -- what stores leave on a memory, from what they leave on another and their marks
-pub laid-merged :
+pub with_stores-merged :
     (map : List Mapped) (stores : List StoredByte) (memory other : Memory) → IsMemory map memory → IsMemory map other
-    → merged (marked map (on_each no_marks map) stores) (laid map memory stores) other ≡ laid map other stores
-laid-merged map stores memory other a b =
-    merged-laid map stores (on_each no_marks map) memory other
-    ∙ ap (λ (m : Memory). laid map m stores) (merged-none map memory other a b)
+    → merged (marked map (on_each no_marks map) stores) (with_stores map memory stores) other ≡ with_stores map other stores
+with_stores-merged map stores memory other a b =
+    merged-with_stores map stores (on_each no_marks map) memory other
+    ∙ ap (λ (m : Memory). with_stores map m stores) (merged-none map memory other a b)
 
 -- one store more keeps what holds of the stores so far
 pub kept-more :
     (map : List Mapped) (stores : List StoredNumber) (s : StoredNumber) (memory shared : Memory)
-    → laid map shared (bytes_of stores) ≡ merged (marked map (on_each no_marks map) (bytes_of stores)) memory shared
-    → laid map shared (bytes_of (stores ++ s ∷ []))
+    → with_stores map shared (bytes_of stores) ≡ merged (marked map (on_each no_marks map) (bytes_of stores)) memory shared
+    → with_stores map shared (bytes_of (stores ++ s ∷ []))
     ≡ merged (marked map (on_each no_marks map) (bytes_of (stores ++ s ∷ [])))
-    (laid map memory (bytes_stored s.address s.size s.value)) shared
+    (with_stores map memory (bytes_stored s.address s.size s.value)) shared
 kept-more map stores s memory shared kept =
     let b = bytes_stored s.address s.size s.value in
     let marks = on_each no_marks map in
-    ap (λ (all : List StoredByte). laid map shared all) (bytes_of-more stores s)
-    ∙ laid-append map shared (bytes_of stores) b
-    ∙ ap (λ (m : Memory). laid map m b) kept
-    ∙ sym (merged-laid map b (marked map marks (bytes_of stores)) memory shared)
-    ∙ ap (λ (masks : Masks). merged masks (laid map memory b) shared)
+    ap (λ (all : List StoredByte). with_stores map shared all) (bytes_of-more stores s)
+    ∙ with_stores-append map shared (bytes_of stores) b
+    ∙ ap (λ (m : Memory). with_stores map m b) kept
+    ∙ sym (merged-with_stores map b (marked map marks (bytes_of stores)) memory shared)
+    ∙ ap (λ (masks : Masks). merged masks (with_stores map memory b) shared)
     (sym (marked-append map marks (bytes_of stores) b))
-    ∙ ap (λ (all : List StoredByte). merged (marked map marks all) (laid map memory b) shared)
+    ∙ ap (λ (all : List StoredByte). merged (marked map marks all) (with_stores map memory b) shared)
     (sym (bytes_of-more stores s))
 
 -- and its places are marked after theirs
@@ -155,5 +155,5 @@ marked-more map stores s =
 pub kept-none :
     (map : List Mapped) (memory : Memory) (stores : List StoredNumber) (shared : Memory)
     → IsMemory map memory → stores ≡ [] → IsMemory map shared
-    → laid map shared (bytes_of stores) ≡ merged (marked map (on_each no_marks map) (bytes_of stores)) memory shared
+    → with_stores map shared (bytes_of stores) ≡ merged (marked map (on_each no_marks map) (bytes_of stores)) memory shared
 kept-none map memory stores shared whole none also = rw none (sym (merged-none map memory shared whole also))

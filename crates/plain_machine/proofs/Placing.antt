@@ -4,7 +4,7 @@ use Rattle.std.proofs.lemmas.List.{get_or-set_same, set-set, set-get_or}
 use Rattle.memory_spec.specs.declared.Size.{Size}
 use Rattle.memory_spec.specs.declared.Size.TheVariants.{One, Two, Four}
 use Rattle.memory_spec.specs.Pages.{Mapped, Memory, slot_of, page_of}
-use Rattle.memory_spec.specs.Stores.{with_byte, laid}
+use Rattle.memory_spec.specs.Stores.{with_byte, with_stores}
 use Rattle.memory_spec.specs.Access.{byte_count, byte_stored, bytes_stored}
 use Rattle.plain_machine.specs.Stored.{byte_of, with_number}
 use Rattle.plain_machine.proofs.Fetching.{slot_of-same}
@@ -23,20 +23,20 @@ byte_more map m p s o a v slot offset lt =
     ∙ set-set m s p (set p o v)
 
 -- a store into a page that is mapped changes that page alone
-pub laid_in_page :
+pub with_stores_in_page :
     (map : List Mapped) (m : Memory) (address : ℕ) (size : Size) (value : ℕ)
     → address % byte_count size ≡ 0 → slot_of map address < length m
-    → laid map m (bytes_stored address size value)
+    → with_stores map m (bytes_stored address size value)
     ≡ set m (slot_of map address) (with_number (page_of m (slot_of map address)) (address % 4096) size value)
 unfolding bytes_stored with_number
-laid_in_page map m address One value h lt =
+with_stores_in_page map m address One value h lt =
     let s = slot_of map address in
     let p = page_of m s in
     let o = address % 4096 in
     let zero_more : address + 0 ≡ address = omega arith in
     ap (λ start. with_byte map start (byte_stored address value 0)) (sym (set-get_or m s []))
     ∙ byte_more map m p s o (address + 0) (byte_of value 0) (ap (slot_of map) zero_more) (omega arith) lt
-laid_in_page map m address Two value h lt =
+with_stores_in_page map m address Two value h lt =
     let s = slot_of map address in
     let p = page_of m s in
     let o = address % 4096 in
@@ -48,7 +48,7 @@ laid_in_page map m address Two value h lt =
     (byte_more map m p s o (address + 0) (byte_of value 0) (ap (slot_of map) zero_more) (omega arith) lt)
     ∙ byte_more map m p0 s (o + 1) (address + 1) (byte_of value 1)
     (slot_of-same map (address + 1) address (omega arith)) (omega arith) lt
-laid_in_page map m address Four value h lt =
+with_stores_in_page map m address Four value h lt =
     let s = slot_of map address in
     let p = page_of m s in
     let o = address % 4096 in
@@ -82,17 +82,17 @@ byte_nowhere map m address value k past same =
     unmapped_byte map m (byte_stored address value k) (omega (arith, slot, past))
 
 -- and so doesn't the store
-pub laid_nowhere :
+pub with_stores_nowhere :
     (map : List Mapped) (m : Memory) (address : ℕ) (size : Size) (value : ℕ)
     → address % byte_count size ≡ 0 → length m ≤ slot_of map address
-    → laid map m (bytes_stored address size value) ≡ m
+    → with_stores map m (bytes_stored address size value) ≡ m
 unfolding bytes_stored
-laid_nowhere map m address One value h past = byte_nowhere map m address value 0 past (omega arith)
-laid_nowhere map m address Two value h past =
+with_stores_nowhere map m address One value h past = byte_nowhere map m address value 0 past (omega arith)
+with_stores_nowhere map m address Two value h past =
     ap (λ start. with_byte map start (byte_stored address value 1))
     (byte_nowhere map m address value 0 past (omega arith))
     ∙ byte_nowhere map m address value 1 past (omega arith)
-laid_nowhere map m address Four value h past =
+with_stores_nowhere map m address Four value h past =
     ap (λ start. with_byte map
     (with_byte map (with_byte map start (byte_stored address value 1)) (byte_stored address value 2))
     (byte_stored address value 3)) (byte_nowhere map m address value 0 past (omega arith))

@@ -4,7 +4,7 @@ use Rattle.machine_spec.specs.Machine.{Machine}
 use Rattle.machine_spec.specs.declared.states.Asked.{Asked}
 use Rattle.machine_spec.specs.declared.states.Asked.TheVariants.{Asks, Stops}
 use Rattle.machine_spec.specs.Step.{written, asked, done_as_asked, finished, step, can_step}
-use Rattle.memory_spec.specs.Stores.{laid}
+use Rattle.memory_spec.specs.Stores.{with_stores}
 use Rattle.machine_spec.specs.Schedule.{scratch_from, is_permitted_from}
 use Rattle.plain_machine.specs.Making.{thunk_of}
 use Rattle.plain_machine.specs.Replaying.{turns_from}
@@ -79,4 +79,4 @@ pub step-steps : (m : Machine) (t : ℕ) → (step m t).steps ≡ suc m.steps
 unfolding step finished
 step-steps m t =
     let done = thunk_of m t in
-    done-steps (written m t (laid m.frame.map m.memory done.stores) done.regs done.put) t (asked t done.end done.regs)
+    done-steps (written m t (with_stores m.frame.map m.memory done.stores) done.regs done.put) t (asked t done.end done.regs)

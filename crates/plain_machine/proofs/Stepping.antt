@@ -1,7 +1,7 @@
 -- A step, part by part.
 use Rattle.std.proofs.Common.{◌≡◌, ℕ, ◌+◌, List, ◌++◌, Option, set, refl, ap, ◌∙◌, arith}
 use Rattle.memory_spec.specs.Pages.{Memory, IsMemory}
-use Rattle.memory_spec.specs.Stores.{laid}
+use Rattle.memory_spec.specs.Stores.{with_stores}
 use Rattle.guest_call.specs.Objects.{Objects}
 use Rattle.machine_spec.specs.declared.states.End.{End}
 use Rattle.machine_spec.specs.Machine.{Machine, Hart, hart_of}
@@ -22,7 +22,7 @@ pub stepped :
     (ending : Option End) (a : Asked)
     → IsMemory m.frame.map m.memory
     → IsDone m.frame (hart_of m t).view (hart_of m t).regs d
-    → memory ≡ laid m.frame.map m.memory (bytes_of d.stores.items)
+    → memory ≡ with_stores m.frame.map m.memory (bytes_of d.stores.items)
     → before ≡ set m.harts t (advanced (hart_of m t) d.regs)
     → a ≡ asked t d.end d.regs
     → output ≡ m.output ++ d.put.items
@@ -47,14 +47,14 @@ stepped m t d memory before done objects output ending a whole is is_memory is_b
     ∙ rw (is_memory ∙ is.lays m.memory whole, is.regs, is.end, is.put) refl
 
 -- and what is told of it
-pub told :
+pub reported :
     (m : Machine) (t : ℕ) (d : ThunkResult) (made : StepResult)
     → IsDone m.frame (hart_of m t).view (hart_of m t).regs d
     → made.count ≡ d.count
     → made.asked ≡ asked t d.end d.regs
     → made.effect ≡ effect_made m.frame.map m.objects t made.asked
     → IsMade m t made
-told m t d made is count asks effect =
+reported m t d made is count asks effect =
     let same : made.asked ≡ asked t (thunk_of m t).end (thunk_of m t).regs =
     asks ∙ ap (λ e. asked t e d.regs) is.end ∙ ap (asked t (thunk_of m t).end) is.regs in
     record {

@@ -3,7 +3,7 @@ use Rattle.std.proofs.Common.{◌≡◌, ℕ, ◌+◌, ◌-◌, ◌<◌, suc, Li
 use Rattle.isa_spec.specs.declared.Cause.{Cause}
 use Rattle.isa_spec.specs.Registers.{Registers}
 use Rattle.memory_spec.specs.Pages.{Mapped, Memory, IsMemory, on_each}
-use Rattle.memory_spec.specs.Stores.{laid}
+use Rattle.memory_spec.specs.Stores.{with_stores}
 use Rattle.memory_spec.specs.Workspace.{Workspace, Masks, no_marks, marked}
 use Rattle.thunk_spec.specs.declared.ends.Outcome.{Outcome}
 use Rattle.thunk_spec.specs.declared.ends.Outcome.TheVariants as outcome
@@ -17,27 +17,27 @@ use Rattle.plain_machine.specs.declared.thunk.ThunkResult.{ThunkResult}
 use Rattle.plain_machine.specs.Stored.{bytes_of}
 use Rattle.plain_machine.specs.Merging.{merged}
 use Rattle.plain_machine.specs.Turning.{TurnsOutcome, left_by, left_after, counted, IsDone}
-use Rattle.plain_machine.proofs.Laying.{laid-append, marked-append}
-use Rattle.plain_machine.proofs.Merging.{laid-merged}
+use Rattle.plain_machine.proofs.Laying.{with_stores-append, marked-append}
+use Rattle.plain_machine.proofs.Merging.{with_stores-merged}
 
 -- what a turn left, and then the rest of its thunk
 left_by-after_turn :
     (map : List Mapped) (memory : Memory) (stored : Masks) (t : Turn) (rest : Thunk)
     → left_by map memory stored (after_turn t rest)
-    ≡ counted 1 (left_by map (laid map memory t.stores) (marked map stored t.stores) rest)
+    ≡ counted 1 (left_by map (with_stores map memory t.stores) (marked map stored t.stores) rest)
 left_by-after_turn map memory stored t rest =
-    rw (laid-append map memory t.stores rest.stores, marked-append map stored t.stores rest.stores)
+    rw (with_stores-append map memory t.stores rest.stores, marked-append map stored t.stores rest.stores)
     (ap (λ (n : ℕ). record {
       regs = rest.regs;
       end = rest.end;
       count = n;
-      memory = laid map (laid map memory t.stores) rest.stores;
+      memory = with_stores map (with_stores map memory t.stores) rest.stores;
       stored = marked map (marked map stored t.stores) rest.stores;
     }) (omega arith))
 
 followed-next :
     (o : Outcome) (map : List Mapped) (memory : Memory) (t : Turn) (rest : Memory → Registers → Thunk)
-    → o ≡ outcome.Next → followed o map memory t rest ≡ after_turn t (rest (laid map memory t.stores) t.regs)
+    → o ≡ outcome.Next → followed o map memory t rest ≡ after_turn t (rest (with_stores map memory t.stores) t.regs)
 followed-next o map memory t rest e = rw e refl
 
 followed-call :
@@ -68,10 +68,10 @@ turns-next fuel count w after r registers o lt made next =
     (turns w.map (fuel - (count + 1))) (sym made.outcome_is ∙ next))
     ∙ ap (counted count)
     (left_by-after_turn w.map w.memory w.stored (turn w.map w.memory r)
-    (turns w.map (fuel - (count + 1)) (laid w.map w.memory (turn w.map w.memory r).stores)
+    (turns w.map (fuel - (count + 1)) (with_stores w.map w.memory (turn w.map w.memory r).stores)
     (turn w.map w.memory r).regs))
     ∙ counted-twice count 1
-    (left_after w.map (fuel - (count + 1)) (laid w.map w.memory (turn w.map w.memory r).stores)
+    (left_after w.map (fuel - (count + 1)) (with_stores w.map w.memory (turn w.map w.memory r).stores)
     (marked w.map w.stored (turn w.map w.memory r).stores)
     (turn w.map w.memory r).regs)))
 
@@ -125,7 +125,7 @@ pub is-done :
     ≡ left_after work.map f.fuel work.memory work.stored start
     → d.put.items ≡ bytes_at f.map after.memory (put_addresses f.map d.end d.regs)
     → ((shared : Memory) → IsMemory after.map shared
-    → laid after.map shared (bytes_of d.stores.items) ≡ merged after.stored after.memory shared)
+    → with_stores after.map shared (bytes_of d.stores.items) ≡ merged after.stored after.memory shared)
     → IsDone f view start d
 unfolding thunk
 is-done f view start work after d whole is same left put lays =
@@ -144,8 +144,8 @@ is-done f view start work after d whole is same left put lays =
       count = ap (λ (l : TurnsOutcome). l.count) all;
       put = put ∙ ap (λ (l : TurnsOutcome). bytes_at f.map l.memory (put_addresses f.map l.end l.regs)) all;
       lays = λ shared also.
-          subst (λ (map : List Mapped). laid map shared (bytes_of d.stores.items) ≡ merged after.stored after.memory shared)
+          subst (λ (map : List Mapped). with_stores map shared (bytes_of d.stores.items) ≡ merged after.stored after.memory shared)
           map_is (lays shared (subst (λ (map : List Mapped). IsMemory map shared) (sym map_is) also))
           ∙ ap (λ (l : TurnsOutcome). merged l.stored l.memory shared) all
-          ∙ laid-merged f.map (turns f.map f.fuel view start).stores view shared whole also;
+          ∙ with_stores-merged f.map (turns f.map f.fuel view start).stores view shared whole also;
     }

@@ -14,7 +14,7 @@ turns_from m [] = 0
 turns_from m (t ∷ schedule) = (thunk_of m t).count + turns_from (step m t) schedule
 
 -- A machine has ended, and this is its outcome, with so many turns.
-pub record TellsOf (m : Machine) (instructions : ℕ) (o : Outcome) : Type 0 where
+pub record IsReportOf (m : Machine) (instructions : ℕ) (o : Outcome) : Type 0 where
   pub ending : m.ending ≡ Some o.ending
   pub steps : o.steps ≡ m.steps
   pub instructions_are : o.instructions ≡ instructions

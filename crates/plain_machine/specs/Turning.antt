@@ -2,7 +2,7 @@
 use Rattle.std.specs.Prelude.{◌≡◌, ℕ, ◌+◌, List}
 use Rattle.isa_spec.specs.Registers.{Registers}
 use Rattle.memory_spec.specs.Pages.{Mapped, Memory, IsMemory}
-use Rattle.memory_spec.specs.Stores.{laid}
+use Rattle.memory_spec.specs.Stores.{with_stores}
 use Rattle.memory_spec.specs.Workspace.{Masks, marked}
 use Rattle.thunk_spec.specs.declared.ends.ThunkEnd.{ThunkEnd}
 use Rattle.thunk_spec.specs.Thunk.{Frame, Thunk, thunk, turns}
@@ -24,7 +24,7 @@ left_by map memory stored t =
       regs = t.regs;
       end = t.end;
       count = t.count;
-      memory = laid map memory t.stores;
+      memory = with_stores map memory t.stores;
       stored = marked map stored t.stores;
     }
 
@@ -44,4 +44,4 @@ pub record IsDone (f : Frame) (view : Memory) (start : Registers) (d : ThunkResu
   pub count : d.count ≡ (thunk f view start).count
   pub put : d.put.items ≡ (thunk f view start).put
   pub lays : (shared : Memory) → IsMemory f.map shared
-      → laid f.map shared (bytes_of d.stores.items) ≡ laid f.map shared (thunk f view start).stores
+      → with_stores f.map shared (bytes_of d.stores.items) ≡ with_stores f.map shared (thunk f view start).stores

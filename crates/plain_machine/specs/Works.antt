@@ -2,7 +2,7 @@
 use Rattle.std.specs.Prelude.{◌≡◌, [], length}
 use Rattle.std.specs.Arc.{arc_value}
 use Rattle.memory_spec.specs.Pages.{Memory, IsMemory, on_each}
-use Rattle.memory_spec.specs.Stores.{laid}
+use Rattle.memory_spec.specs.Stores.{with_stores}
 use Rattle.memory_spec.specs.Workspace.{Workspace, Masks, no_marks, marked}
 use Rattle.plain_machine.specs.declared.work.Work.TheInside.{Inside}
 use Rattle.plain_machine.specs.Stored.{bytes_of}
@@ -23,5 +23,5 @@ workspace_of w =
 pub record Keeps (w : Inside) : Type 0 where
   pub count : length w.memory ≡ length (arc_value w.map)
   pub lays : (shared : Memory) → IsMemory (arc_value w.map) shared
-      → laid (arc_value w.map) shared (bytes_of w.stores.items) ≡ merged (stored_of w) w.memory shared
+      → with_stores (arc_value w.map) shared (bytes_of w.stores.items) ≡ merged (stored_of w) w.memory shared
   pub last : IsLast (arc_value w.map) w.last

@@ -1,7 +1,7 @@
 //! A whole schedule, from scratch.
 
 ghost use Rattle.std.specs.Prelude.{◌≡◌, ◌+◌, ◌≤◌, IfOk, IfErr};
-ghost use Rattle.plain_machine.specs.Replaying.{TellsOf, LacksEnd, IsOutcomeOf, IsCauseOf};
+ghost use Rattle.plain_machine.specs.Replaying.{IsReportOf, LacksEnd, IsOutcomeOf, IsCauseOf};
 
 use super::machine::PlainMachine;
 use machine_spec::End;
@@ -48,7 +48,7 @@ impl From<AllocError> for ReplayError {
 
 /// The outcome of a machine that made so many turns.
 fn outcome_of(machine: PlainMachine, instructions: u64) -> Result<Outcome, ReplayError>
-    ensures outcome { IfOk result (λ o. TellsOf machine instructions o) }
+    ensures outcome { IfOk result (λ o. IsReportOf machine instructions o) }
     ensures cause { IfErr result (λ e. LacksEnd machine e) }
 {
     match machine.ended() {

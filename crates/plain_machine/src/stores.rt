@@ -2,7 +2,7 @@
 
 ghost use Rattle.std.specs.Prelude.{◌≡◌, ◌%◌, length, OnOk, OnErr};
 ghost use Rattle.memory_spec.specs.Access.{byte_count, bytes_stored};
-ghost use Rattle.memory_spec.specs.Stores.{laid};
+ghost use Rattle.memory_spec.specs.Stores.{with_stores};
 ghost use Rattle.plain_machine.specs.Stored.{bytes_of};
 
 use super::memory::Memory;
@@ -60,7 +60,7 @@ impl Stored {
 pub(super) fn lay(map: &PageMap, memory: &mut Memory, stored: Stored) -> Result<(), AllocError>
     requires { length memory.old ≡ length map.now }
     ensures ok { OnOk result (memory.new
-        ≡ laid map.now memory.old (bytes_stored stored.address stored.size stored.value)) }
+        ≡ with_stores map.now memory.old (bytes_stored stored.address stored.size stored.value)) }
     ensures err { OnErr result (memory.new ≡ memory.old) }
 {
     if let Some(slot) = map.slot_of(stored.address) {
@@ -81,7 +81,7 @@ pub(super) fn lay_all(
     stores: &[Stored],
 ) -> Result<(), AllocError>
     requires { length memory.old ≡ length map.now }
-    ensures { OnOk result (memory.new ≡ laid map.now memory.old (bytes_of stores.now)) }
+    ensures { OnOk result (memory.new ≡ with_stores map.now memory.old (bytes_of stores.now)) }
 {
     for stored in stores {
         lay(map, memory, *stored)?;

@@ -4,7 +4,7 @@ ghost use Rattle.std.specs.Prelude.{◌≡◌, ◌+◌, ◌*◌, ◌^◌, ◌<�
 ghost use Rattle.std.specs.Arc.{arc_value};
 ghost use Rattle.memory_spec.specs.Access.{byte_count, number_in};
 ghost use Rattle.memory_spec.specs.Pages.{Memory, IsMemory, on_each};
-ghost use Rattle.memory_spec.specs.Stores.{laid};
+ghost use Rattle.memory_spec.specs.Stores.{with_stores};
 ghost use Rattle.memory_spec.specs.Workspace.{no_marks};
 ghost use Rattle.plain_machine.specs.Merging.{merged};
 ghost use Rattle.plain_machine.specs.Stored.{bytes_of};
@@ -168,7 +168,7 @@ impl Work {
     /// The stores, in order.
     pub(super) fn into_stores(self) -> Vec<Stored>
         ensures { (shared : Memory) → IsMemory self.map shared
-            → laid self.map shared (bytes_of result.items) ≡ merged self.stored self.memory shared }
+            → with_stores self.map shared (bytes_of result.items) ≡ merged self.stored self.memory shared }
     {
         self.stores
     }

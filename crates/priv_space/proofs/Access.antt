@@ -4,7 +4,7 @@ use Rattle.std.proofs.lemmas.List.{get_or-set_same, set-set, set-get_or}
 use Rattle.memory_spec.specs.declared.Size.{Size}
 use Rattle.memory_spec.specs.declared.Size.TheVariants.{One, Two, Four}
 use Rattle.memory_spec.specs.Pages.{Mapped, Memory, slot_of, page_of}
-use Rattle.memory_spec.specs.Stores.{with_byte, laid}
+use Rattle.memory_spec.specs.Stores.{with_byte, with_stores}
 use Rattle.memory_spec.specs.Access.{byte_count, bytes_stored}
 use Rattle.memory_spec.specs.Workspace.{Masks, mask_of, with_mark, marked}
 use Rattle.page_store.proofs.Slots.{slot_of-page}
@@ -53,15 +53,15 @@ puts-page map m address f (suc n) inside lt =
     (slot_of-page map (address + suc n) address (omega arith)) (omega arith) lt
 
 -- an aligned store writes into its page alone
-pub laid-access :
+pub with_stores-access :
     (map : List Mapped) (m : Memory) (address : ℕ) (size : Size) (value : ℕ)
     → address % byte_count size ≡ 0 → slot_of map address < length m
-    → laid map m (bytes_stored address size value)
+    → with_stores map m (bytes_stored address size value)
     ≡ set m (slot_of map address) (with_number (page_of m (slot_of map address)) (address % 4096) size value)
 unfolding with_byte bytes_stored with_number
-laid-access map m address One value h lt = puts-page map m address (byte_of value) 0 (omega arith) lt
-laid-access map m address Two value h lt = puts-page map m address (byte_of value) 1 (omega arith) lt
-laid-access map m address Four value h lt = puts-page map m address (byte_of value) 3 (omega arith) lt
+with_stores-access map m address One value h lt = puts-page map m address (byte_of value) 0 (omega arith) lt
+with_stores-access map m address Two value h lt = puts-page map m address (byte_of value) 1 (omega arith) lt
+with_stores-access map m address Four value h lt = puts-page map m address (byte_of value) 3 (omega arith) lt
 
 -- and marks in its page's mask alone
 pub marked-access :

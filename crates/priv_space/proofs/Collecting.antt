@@ -4,11 +4,11 @@ use Rattle.std.proofs.lemmas.Bool.{and_from}
 use Rattle.std.proofs.lemmas.Bool.Decides.{nat_tests}
 use Rattle.std.proofs.lemmas.List.{drop_all, append-nil, length-map, map-set, drop-set-lt}
 use Rattle.memory_spec.specs.Pages.{Mapped, Memory, page_of, on_each, zero_page, IsMemory}
-use Rattle.memory_spec.specs.Stores.{StoredByte, laid}
+use Rattle.memory_spec.specs.Stores.{StoredByte, with_stores}
 use Rattle.memory_spec.specs.Workspace.{Masks, no_marks, marked}
 use Rattle.thunk_spec.specs.Delta.{PageDelta, chosen, is_stored, delta_from, delta_of}
 use Rattle.thunk_spec.specs.Reads.{ReadPage, reads_from}
-use Rattle.thunk_spec.proofs.Merging.{merged, merged_all, Shaped, shaped-laid, shaped-fresh, merged_all-laid, merged_all-no_marks}
+use Rattle.thunk_spec.proofs.Merging.{merged, merged_all, Shaped, shaped-with_stores, shaped-fresh, merged_all-with_stores, merged_all-no_marks}
 use Rattle.thunk_spec.specs.Ascending.{deltas_ascend, reads_ascend}
 use Rattle.priv_space.specs.declared.slot.Slot.{Slot}
 use Rattle.priv_space.specs.Slots.{on_view, untouched, slot_bytes, slot_marks, slot_taken}
@@ -207,18 +207,18 @@ delta_from-merged k (o ∷ os) (n ∷ ns) (m ∷ ms) h =
     rw (chosen-merged o n m h.0 h.1, delta_from-merged (suc k) os ns ms h.2) refl
 
 -- what stores leave on a view, at the places that they wrote, is what they leave on any other
-pub delta_from-laid :
+pub delta_from-with_stores :
     (map : List Mapped) (view : Memory) (stores : List StoredByte)
     → IsMemory map view
-    → delta_from 0 (marked map (on_each no_marks map) stores) (laid map view stores) ≡ delta_of map stores
+    → delta_from 0 (marked map (on_each no_marks map) stores) (with_stores map view stores) ≡ delta_of map stores
 unfolding delta_of
-delta_from-laid map view stores h =
+delta_from-with_stores map view stores h =
     let masks = marked map (on_each no_marks map) stores in
-    let zeros = laid map (on_each zero_page map) stores in
+    let zeros = with_stores map (on_each zero_page map) stores in
     let shape = shaped-fresh map view h in
     ap (delta_from 0 masks)
     (sym
-    (merged_all-laid map view (on_each zero_page map) (on_each no_marks map) stores shape
-    ∙ ap (λ start. laid map start stores) (merged_all-no_marks map view)))
+    (merged_all-with_stores map view (on_each zero_page map) (on_each no_marks map) stores shape
+    ∙ ap (λ start. with_stores map start stores) (merged_all-no_marks map view)))
     ∙ delta_from-merged 0 view zeros masks
-    (shaped-laid map view (on_each zero_page map) (on_each no_marks map) stores shape)
+    (shaped-with_stores map view (on_each zero_page map) (on_each no_marks map) stores shape)

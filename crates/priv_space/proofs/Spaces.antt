@@ -5,7 +5,7 @@ use Rattle.std.proofs.Math.Seq.{map-set_same}
 use Rattle.memory_spec.specs.declared.Size.{Size}
 use Rattle.memory_spec.specs.Pages.{Mapped, Memory, allows, execute_right, read_right, write_right, slot_of, permission_at, page_of, unmapped, on_each}
 use Rattle.memory_spec.specs.Access.{byte_count, bytes_stored, number_in, number_at, loaded, may_store}
-use Rattle.memory_spec.specs.Stores.{laid}
+use Rattle.memory_spec.specs.Stores.{with_stores}
 use Rattle.memory_spec.specs.Workspace.{mask_of, marked, fresh, after_taking, after_storing}
 use Rattle.priv_space.specs.Written.{with_number, with_marks}
 use Rattle.page_store.specs.Entering.{Enters}
@@ -14,7 +14,7 @@ use Rattle.priv_space.specs.Slots.{on_view, untouched, slot_shared, slot_bytes, 
 use Rattle.priv_space.specs.Changes.{Keeps, HasNumber, TakesByte, EntersPage, StoresNumber, StoresAgain, OnSlot}
 use Rattle.priv_space.specs.Spaces.{workspace}
 use Rattle.priv_space.proofs.Views.{bytes-untouched, on_view-set, on_view-set_same, get_or-on_view, length-on_view, each-set, each-untouched}
-use Rattle.priv_space.proofs.Access.{laid-access, marked-access}
+use Rattle.priv_space.proofs.Access.{with_stores-access, marked-access}
 
 -- slots that weren't touched are a fresh workspace
 each-fresh :
@@ -123,12 +123,12 @@ stored_space pages {view} {slots} {after} address size value {i} {s} fits at ali
     let stored = map slot_marks slots in
     let offset = address % 4096 in
     let under = inside_slots fits at.1 in
-    let bytes : on_view slot_bytes view (set slots i s) ≡ laid pages memory (bytes_stored address size value) =
+    let bytes : on_view slot_bytes view (set slots i s) ≡ with_stores pages memory (bytes_stored address size value) =
     on_view-set slot_bytes view slots i s
     ∙ ap (set memory i) (stores.bytes
     ∙ ap (λ p. with_number p offset size value) (sym (get_or-on_view slot_bytes view slots i untouched under.1 under.0)))
     ∙ ap (λ k. set memory k (with_number (page_of memory k) offset size value)) at.0
-    ∙ sym (laid-access pages memory address size value aligned
+    ∙ sym (with_stores-access pages memory address size value aligned
     (omega (arith, under.1, length-on_view slot_bytes view slots fits.over.count))) in
     let marks : map slot_marks (set slots i s) ≡ marked pages stored (bytes_stored address size value) =
     map-set slot_marks slots i s

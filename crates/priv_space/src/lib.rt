@@ -4,7 +4,7 @@
 
 ghost use Rattle.std.specs.Prelude.{◌≡◌, List};
 ghost use Rattle.memory_spec.specs.Pages.{Mapped, Memory, IsMemory, on_each};
-ghost use Rattle.memory_spec.specs.Stores.{StoredByte, laid};
+ghost use Rattle.memory_spec.specs.Stores.{StoredByte, with_stores};
 ghost use Rattle.memory_spec.specs.Workspace.{no_marks, marked};
 ghost use Rattle.thunk_spec.specs.Delta.{delta_from, delta_of};
 
@@ -18,6 +18,6 @@ pub use space::Space;
 pub fn delta_is_of_the_stores()
     ensures { (map : List Mapped) (view : Memory) (stores : List StoredByte)
         → IsMemory map view
-        → delta_from 0 (marked map (on_each no_marks map) stores) (laid map view stores)
+        → delta_from 0 (marked map (on_each no_marks map) stores) (with_stores map view stores)
         ≡ delta_of map stores }
 {}

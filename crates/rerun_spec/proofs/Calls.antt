@@ -64,7 +64,7 @@ create-effect pc argument members word other = at (not (eqb (pc % 4) 0)) (ltb (l
     at false false is = answers-effect (length members) answer_eagain (omega arith)
     at false true is =
         let few : length members < 32 = ltb-true (length members) 32 is in
-        record { fate = (omega arith, tt); told = tt; created = (few, word, other) }
+        record { fate = (omega arith, tt); reported = tt; created = (few, word, other) }
 
 either-members :
     (b : Bool) (x y : OnThreads) → AreMembers x.1 → AreMembers y.1 → AreMembers (cond b x y).1
@@ -82,7 +82,7 @@ exit-members :
 exit-members t v members word all = every-set HasValue members t (ended_with v (member_at members t)) word all
 
 joins-effect : (n : ℕ) (value : Option ℕ) → IfSome value IsWord → IsEffect n (joins value)
-joins-effect n (Some v) word = record { fate = (omega arith, word); told = tt; created = tt }
+joins-effect n (Some v) word = record { fate = (omega arith, word); reported = tt; created = tt }
 joins-effect n None word = blocks-effect n
 
 join-effect : (n t u : ℕ) (members : List Member) → AreMembers members → IsEffect n (join_row t u members).0
@@ -118,7 +118,7 @@ act-effect readable o t (Exit code) is all = wakes-effect (length o.threads) (Ex
 act-effect readable o t (Put p n) is all =
     answers-effect (length o.threads) (put_answer readable p n) (put-word readable p n)
 act-effect readable o t (Create pc argument) is all = create-effect pc argument o.threads is.0 is.1
-act-effect readable o t (ThreadExit v) is all = record { fate = is; told = is; created = tt }
+act-effect readable o t (ThreadExit v) is all = record { fate = is; reported = is; created = tt }
 act-effect readable o t (Join u) is all = join-effect (length o.threads) t u o.threads all
 act-effect readable o t Yield is all = answers-effect (length o.threads) 0 (omega arith)
 act-effect readable o t (Lock m) is all =

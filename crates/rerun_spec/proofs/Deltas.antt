@@ -7,7 +7,7 @@ use Rattle.std.proofs.lemmas.List.Elements.{recursion_from_All}
 use Rattle.std.specs.List.{AllByRecursion, count_by}
 use Rattle.isa_spec.specs.Registers.{Registers}
 use Rattle.memory_spec.specs.Pages.{Mapped, Memory, IsMemory, on_each, zero_page, slot_of}
-use Rattle.memory_spec.specs.Stores.{StoredByte, with_byte, laid}
+use Rattle.memory_spec.specs.Stores.{StoredByte, with_byte, with_stores}
 use Rattle.memory_spec.specs.Workspace.{Masks, no_marks, mask_of, with_mark, marked, taken_at}
 use Rattle.thunk_spec.specs.Thunk.{Frame, thunk}
 use Rattle.thunk_spec.specs.Ascending.{reads_ascend, deltas_ascend}
@@ -17,7 +17,7 @@ use Rattle.thunk_spec.specs.Record.{kept_thunk}
 use Rattle.thunk_spec.proofs.Truth.{length-on_each}
 use Rattle.memo_spec.specs.Encoding.{AreBytes, IsReadPage, IsStoredPage}
 use Rattle.rerun_spec.proofs.Lists.{every-below, every-changed, every-replicate, every-on_each}
-use Rattle.rerun_spec.proofs.Memory.{IsByte, HasBytes, AreStores, laid-bytes, page-bytes}
+use Rattle.rerun_spec.proofs.Memory.{IsByte, HasBytes, AreStores, with_stores-bytes, page-bytes}
 
 -- a page of 4,096 bytes, and as many marks
 abbrev pub IsPage : List ℕ → Type 0
@@ -175,12 +175,12 @@ with_byte-pages map memory s all =
     every-changed IsPage (λ (page : List ℕ). set page (s.address % 4096) s.byte) memory (slot_of map s.address) []
     (λ page long. length-set page (s.address % 4096) s.byte ∙ long) all
 
-laid-pages :
+with_stores-pages :
     (map : List Mapped) (memory : Memory) (stores : List StoredByte)
-    → AllByRecursion IsPage memory → AllByRecursion IsPage (laid map memory stores)
-laid-pages map memory [] all = all
-laid-pages map memory (s ∷ stores) all =
-    laid-pages map (with_byte map memory s) stores (with_byte-pages map memory s all)
+    → AllByRecursion IsPage memory → AllByRecursion IsPage (with_stores map memory stores)
+with_stores-pages map memory [] all = all
+with_stores-pages map memory (s ∷ stores) all =
+    with_stores-pages map (with_byte map memory s) stores (with_byte-pages map memory s all)
 
 no_marks-mask : IsMask no_marks
 unfolding no_marks
@@ -199,7 +199,7 @@ pub kept-deltas_ascend :
 unfolding kept_thunk delta_of
 kept-deltas_ascend f view r =
     deltas-ascend 0 0 (marked f.map (on_each no_marks f.map) (thunk f view r).stores)
-    (laid f.map (on_each zero_page f.map) (thunk f view r).stores) (omega arith)
+    (with_stores f.map (on_each zero_page f.map) (thunk f view r).stores) (omega arith)
 
 pub kept-stored_pages :
     (f : Frame) (view : Memory) (r : Registers)
@@ -209,10 +209,10 @@ kept-stored_pages f view r stores =
     let long : length (marked f.map (on_each no_marks f.map) (thunk f view r).stores) ≡ length f.map =
     length-marked f.map (on_each no_marks f.map) (thunk f view r).stores ∙ length-on_each no_marks f.map in
     deltas-pages f.map 0 (marked f.map (on_each no_marks f.map) (thunk f view r).stores)
-    (laid f.map (on_each zero_page f.map) (thunk f view r).stores) (omega arith)
+    (with_stores f.map (on_each zero_page f.map) (thunk f view r).stores) (omega arith)
     (marked-masks f.map (on_each no_marks f.map) (thunk f view r).stores
     (every-on_each IsMask no_marks f.map no_marks-mask))
-    (laid-pages f.map (on_each zero_page f.map) (thunk f view r).stores
+    (with_stores-pages f.map (on_each zero_page f.map) (thunk f view r).stores
     (every-on_each IsPage zero_page f.map zero_page-page))
-    (laid-bytes f.map (on_each zero_page f.map) (thunk f view r).stores
+    (with_stores-bytes f.map (on_each zero_page f.map) (thunk f view r).stores
     (every-on_each AreBytes zero_page f.map zero_page-bytes) stores)

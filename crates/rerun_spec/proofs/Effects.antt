@@ -30,19 +30,19 @@ CreatesBeside threads (Some c) = (threads < 32) × IsWord c.0 × IsWord c.1
 -- an effect of words, where there are so many threads
 pub record IsEffect (threads : ℕ) (e : Effect) : Type 0 where
   pub fate : IsFate e.fate
-  pub told : IfSome e.told IsWord
+  pub reported : IfSome e.reported IsWord
   pub created : CreatesBeside threads e.created
 
 -- effects without more
 
 pub wakes-effect : (n : ℕ) (f : Fate) (threads : List ℕ) → IsFate f → IsEffect n (wakes f threads)
-wakes-effect n f threads is = record { fate = is; told = tt; created = tt }
+wakes-effect n f threads is = record { fate = is; reported = tt; created = tt }
 
 pub answers-effect : (n a : ℕ) → IsWord a → IsEffect n (answers a)
-answers-effect n a word = record { fate = (word, tt); told = tt; created = tt }
+answers-effect n a word = record { fate = (word, tt); reported = tt; created = tt }
 
 pub blocks-effect : (n : ℕ) → IsEffect n blocks
-blocks-effect n = record { fate = tt; told = tt; created = tt }
+blocks-effect n = record { fate = tt; reported = tt; created = tt }
 
 -- what is done in either case
 pub either-effect :

@@ -14,7 +14,7 @@ use Rattle.isa_spec.specs.Operations.{branch_taken}
 use Rattle.isa_spec.specs.Table.{reading_of, decoded}
 use Rattle.memory_spec.specs.declared.Size.TheVariants.{Four}
 use Rattle.memory_spec.specs.Pages.{Mapped, Memory, allows, execute_right, permission_at}
-use Rattle.memory_spec.specs.Stores.{StoredByte, with_byte, laid}
+use Rattle.memory_spec.specs.Stores.{StoredByte, with_byte, with_stores}
 use Rattle.memory_spec.specs.Access.{byte_count, bytes_stored, number_at, loaded, fetched, may_store}
 use Rattle.thunk_spec.specs.declared.ends.Outcome.{Outcome}
 use Rattle.thunk_spec.specs.declared.ends.Outcome.TheVariants as outcome
@@ -181,29 +181,29 @@ turn-illegal map memory r h = here (eqb (r.pc % 4) 0) refl h
 
 -- ---- the thunk
 
-laid-append :
+with_stores-append :
     (map : List Mapped) (memory : Memory) (xs ys : List StoredByte)
-    → laid map memory (xs ++ ys) ≡ laid map (laid map memory xs) ys
-laid-append map memory [] ys = refl
-laid-append map memory (x ∷ xs) ys = laid-append map (with_byte map memory x) xs ys
+    → with_stores map memory (xs ++ ys) ≡ with_stores map (with_stores map memory xs) ys
+with_stores-append map memory [] ys = refl
+with_stores-append map memory (x ∷ xs) ys = with_stores-append map (with_byte map memory x) xs ys
 
 -- where a thunk leaves its registers and stores, an illegal instruction stands
 abbrev Stands : List Mapped → Memory → Thunk → Type 0
-Stands map memory t = StandsAtIllegal map (laid map memory t.stores) t.regs
+Stands map memory t = StandsAtIllegal map (with_stores map memory t.stores) t.regs
 
 last-stands :
     (map : List Mapped) (memory : Memory) (r : Registers) (t : Turn)
-    → IsIllegalTurn map memory r t → StandsAtIllegal map (laid map memory t.stores) t.regs
+    → IsIllegalTurn map memory r t → StandsAtIllegal map (with_stores map memory t.stores) t.regs
 last-stands map memory r t is = rw (is.stores, is.regs) is.stands
 
 followed-stands :
     (o : Outcome) (map : List Mapped) (memory : Memory) (t : Turn) (rest : Memory → Registers → Thunk)
-    → (is_illegal (end_after o) ≡ true → StandsAtIllegal map (laid map memory t.stores) t.regs)
+    → (is_illegal (end_after o) ≡ true → StandsAtIllegal map (with_stores map memory t.stores) t.regs)
     → ((m : Memory) (r : Registers) → is_illegal (rest m r).end ≡ true → Stands map m (rest m r))
     → is_illegal (followed o map memory t rest).end ≡ true → Stands map memory (followed o map memory t rest)
 followed-stands outcome.Next map memory t rest last later h =
-    rw (laid-append map memory t.stores (rest (laid map memory t.stores) t.regs).stores)
-    (later (laid map memory t.stores) t.regs h)
+    rw (with_stores-append map memory t.stores (rest (with_stores map memory t.stores) t.regs).stores)
+    (later (with_stores map memory t.stores) t.regs h)
 followed-stands outcome.Call map memory t rest last later h = cc
 followed-stands (outcome.Trap cause) map memory t rest last later h = last h
 
@@ -219,6 +219,6 @@ turns-stand map (suc fuel) memory r h =
 pub thunk-stands :
     (f : Frame) (view : Memory) (r : Registers)
     → is_illegal (thunk f view r).end ≡ true
-    → StandsAtIllegal f.map (laid f.map view (thunk f view r).stores) (thunk f view r).regs
+    → StandsAtIllegal f.map (with_stores f.map view (thunk f view r).stores) (thunk f view r).regs
 unfolding thunk
 thunk-stands f view r h = turns-stand f.map f.fuel view r h

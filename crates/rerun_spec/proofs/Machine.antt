@@ -6,7 +6,7 @@ use Rattle.std.specs.List.{AllByRecursion}
 use Rattle.isa_spec.specs.Words.{sum_of}
 use Rattle.isa_spec.specs.Registers.{Registers, with_register}
 use Rattle.memory_spec.specs.Pages.{Memory}
-use Rattle.memory_spec.specs.Stores.{laid}
+use Rattle.memory_spec.specs.Stores.{with_stores}
 use Rattle.guest_call.specs.declared.Call.{Call}
 use Rattle.guest_call.specs.declared.Fate.{Fate}
 use Rattle.guest_call.specs.declared.Fate.TheVariants.{Returns, Blocks, Ends, Exits}
@@ -30,7 +30,7 @@ use Rattle.machine_spec.proofs.Steps.{hart-at}
 use Rattle.memo_spec.specs.Encoding.{AreRegisters, IsRecord}
 use Rattle.rerun_spec.proofs.Lists.{every-below, every-changed, every-append, every-replicate}
 use Rattle.rerun_spec.proofs.Words.{IsWord, sum-word, moved-registers, written-registers}
-use Rattle.rerun_spec.proofs.Memory.{HasBytes, laid-bytes, masked-bytes}
+use Rattle.rerun_spec.proofs.Memory.{HasBytes, with_stores-bytes, masked-bytes}
 use Rattle.rerun_spec.proofs.Turns.{IsThunk, thunk-fits}
 use Rattle.rerun_spec.proofs.Deltas.{kept-reads_ascend, kept-read_pages, kept-deltas_ascend, kept-stored_pages}
 use Rattle.rerun_spec.proofs.Effects.{IsFate, CreatesBeside, IsEffect}
@@ -52,17 +52,17 @@ pub record IsOfWords (m : Machine) : Type 0 where
 answered-registers :
     (r : Registers) (a0 : ℕ) (a1 : Option ℕ)
     → AreRegisters r → IsWord a0 → IfSome a1 IsWord → AreRegisters (answered r a0 a1)
-answered-registers r a0 None regs word told =
+answered-registers r a0 None regs word reported =
     moved-registers (with_register r 10 a0) (sum_of r.pc 4) (written-registers r 10 a0 regs word) (sum-word r.pc 4)
-answered-registers r a0 (Some a1) regs word told =
+answered-registers r a0 (Some a1) regs word reported =
     moved-registers (with_register (with_register r 10 a0) 11 a1) (sum_of r.pc 4)
-    (written-registers (with_register r 10 a0) 11 a1 (written-registers r 10 a0 regs word) told) (sum-word r.pc 4)
+    (written-registers (with_register r 10 a0) 11 a1 (written-registers r 10 a0 regs word) reported) (sum-word r.pc 4)
 
 returned-hart :
     (memory : Memory) (a0 : ℕ) (a1 : Option ℕ) (h : Hart)
     → HasBytes memory → IsWord a0 → IfSome a1 IsWord → IsHart h → IsHart (returned memory a0 a1 h)
-returned-hart memory a0 a1 h bytes word told is =
-    record { regs = answered-registers h.regs a0 a1 is.regs word told; view = bytes }
+returned-hart memory a0 a1 h bytes word reported is =
+    record { regs = answered-registers h.regs a0 a1 is.regs word reported; view = bytes }
 
 fated-hart : (f : Fate) (memory : Memory) (h : Hart) → IsFate f → HasBytes memory → IsHart h → IsHart (fated f memory h)
 fated-hart (Returns a0 a1) memory h words bytes is = returned-hart memory a0 a1 h bytes words.0 words.1 is
@@ -71,14 +71,14 @@ fated-hart (Ends v) memory h words bytes is = record { regs = is.regs; view = is
 fated-hart (Exits code) memory h words bytes is = is
 
 woken-harts :
-    (memory : Memory) (told : Option ℕ) (us : List ℕ) (hs : List Hart)
-    → HasBytes memory → IfSome told IsWord → AllByRecursion IsHart hs
-    → AllByRecursion IsHart (woken memory told us hs)
-woken-harts memory told [] hs bytes word all = all
-woken-harts memory told (u ∷ us) hs bytes word all =
-    woken-harts memory told us (set hs u (returned memory 0 told (hart_in hs u))) bytes word
-    (every-changed IsHart (returned memory 0 told) hs u nobody
-    (λ h is. returned-hart memory 0 told h bytes (omega arith) word is) all)
+    (memory : Memory) (reported : Option ℕ) (us : List ℕ) (hs : List Hart)
+    → HasBytes memory → IfSome reported IsWord → AllByRecursion IsHart hs
+    → AllByRecursion IsHart (woken memory reported us hs)
+woken-harts memory reported [] hs bytes word all = all
+woken-harts memory reported (u ∷ us) hs bytes word all =
+    woken-harts memory reported us (set hs u (returned memory 0 reported (hart_in hs u))) bytes word
+    (every-changed IsHart (returned memory 0 reported) hs u nobody
+    (λ h is. returned-hart memory 0 reported h bytes (omega arith) word is) all)
 
 pub first-registers :
     (t pc argument : ℕ) → t < 32 → IsWord pc → IsWord argument → AreRegisters (first_registers t pc argument)
@@ -126,12 +126,12 @@ settled-harts :
     → IsEffect (length hs) e → HasBytes memory → AllByRecursion IsHart hs
     → AllByRecursion IsHart (settled e memory t hs)
 settled-harts e memory t hs words bytes all =
-    let count : length (woken memory e.told e.woken (set hs t (fated e.fate memory (hart_in hs t)))) ≡ length hs =
-    length-woken memory e.told e.woken (set hs t (fated e.fate memory (hart_in hs t)))
+    let count : length (woken memory e.reported e.woken (set hs t (fated e.fate memory (hart_in hs t)))) ≡ length hs =
+    length-woken memory e.reported e.woken (set hs t (fated e.fate memory (hart_in hs t)))
     ∙ length-set hs t (fated e.fate memory (hart_in hs t)) in
-    created-harts memory e.created (woken memory e.told e.woken (set hs t (fated e.fate memory (hart_in hs t)))) bytes
+    created-harts memory e.created (woken memory e.reported e.woken (set hs t (fated e.fate memory (hart_in hs t)))) bytes
     (subst (λ (n : ℕ). CreatesBeside n e.created) (sym count) words.created)
-    (woken-harts memory e.told e.woken (set hs t (fated e.fate memory (hart_in hs t))) bytes words.told
+    (woken-harts memory e.reported e.woken (set hs t (fated e.fate memory (hart_in hs t))) bytes words.reported
     (every-changed IsHart (fated e.fate memory) hs t nobody
     (λ h is. fated-hart e.fate memory h words.fate bytes is) all))
 
@@ -200,12 +200,12 @@ unfolding step
 step-words m t whole words ready =
     let done : IsThunk m.frame.fuel (thunk m.frame (hart_of m t).view (hart_of m t).regs) =
     ready-thunk m t words ready in
-    finished-words m t (laid m.frame.map m.memory (thunk m.frame (hart_of m t).view (hart_of m t).regs).stores)
+    finished-words m t (with_stores m.frame.map m.memory (thunk m.frame (hart_of m t).view (hart_of m t).regs).stores)
     (thunk m.frame (hart_of m t).view (hart_of m t).regs).regs
     (thunk m.frame (hart_of m t).view (hart_of m t).regs).end
     (thunk m.frame (hart_of m t).view (hart_of m t).regs).put
     whole.tied.threads words
-    (laid-bytes m.frame.map m.memory (thunk m.frame (hart_of m t).view (hart_of m t).regs).stores words.memory
+    (with_stores-bytes m.frame.map m.memory (thunk m.frame (hart_of m t).view (hart_of m t).regs).stores words.memory
     done.stores)
     done.regs
 

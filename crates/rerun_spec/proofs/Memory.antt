@@ -4,7 +4,7 @@ use Rattle.std.specs.List.{AllByRecursion}
 use Rattle.memory_spec.specs.declared.Size.{Size}
 use Rattle.memory_spec.specs.declared.Size.TheVariants.{One, Two, Four}
 use Rattle.memory_spec.specs.Pages.{Mapped, Memory, page_of, slot_of, allows, read_right, execute_right, permission_at}
-use Rattle.memory_spec.specs.Stores.{StoredByte, with_byte, laid}
+use Rattle.memory_spec.specs.Stores.{StoredByte, with_byte, with_stores}
 use Rattle.memory_spec.specs.Access.{number_in, number_at, bytes_stored, loaded, fetched}
 use Rattle.thunk_spec.specs.Delta.{PageDelta, spread, masked}
 use Rattle.memo_spec.specs.Encoding.{AreBytes, IsStoredPage}
@@ -42,12 +42,12 @@ with_byte-bytes map memory s all new =
     (every-set IsByte (page_of memory (slot_of map s.address)) (s.address % 4096) s.byte new
     (page-bytes memory (slot_of map s.address) all)) all
 
-pub laid-bytes :
+pub with_stores-bytes :
     (map : List Mapped) (memory : Memory) (stores : List StoredByte)
-    → HasBytes memory → AreStores stores → HasBytes (laid map memory stores)
-laid-bytes map memory [] all new = all
-laid-bytes map memory (s ∷ stores) all new =
-    laid-bytes map (with_byte map memory s) stores (with_byte-bytes map memory s all new.0) new.1
+    → HasBytes memory → AreStores stores → HasBytes (with_stores map memory stores)
+with_stores-bytes map memory [] all new = all
+with_stores-bytes map memory (s ∷ stores) all new =
+    with_stores-bytes map (with_byte map memory s) stores (with_byte-bytes map memory s all new.0) new.1
 
 pub stored-bytes : (address : ℕ) (size : Size) (value : ℕ) → AreStores (bytes_stored address size value)
 unfolding bytes_stored

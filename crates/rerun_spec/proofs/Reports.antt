@@ -191,10 +191,10 @@ extras-made r =
     ∙ ap (λ (s : Setup). extras_of r.asked r.past s r.found.progress) (round-setup r.setup r.past (events_in r.found.entries))
 
 -- what was made is told as the machine from scratch is, under the same schedule
-told-made :
+reported-made :
     (workers : ℕ) (r : Round) → IsSoundlyMade workers r
     → data_as_made (made r) (made_extras r) r.found.worker_steps ≡ data_of r.setup (made r).schedule (extras_in r) r.found.worker_steps
-told-made workers r is =
+reported-made workers r is =
     let es = (made r).schedule in
     let worker_steps = r.found.worker_steps in
     let machine : (made r).machine ≡ scratch r.setup (threads_of es) =
@@ -220,11 +220,11 @@ told-made workers r is =
     }) machine
     ∙ ap (λ (extras : Extras). data_of r.setup es extras worker_steps) (extras-made r)
 
-report-told :
+report-reported :
     (number : ℕ) (s : Setup) (es : List Entry) (extras : Extras) (worker_steps : List ℕ)
     → report_text number (data_of s es extras worker_steps) ≡ report number s es extras worker_steps
 unfolding report
-report-told number s es extras worker_steps = refl
+report-reported number s es extras worker_steps = refl
 
 pub report-entries :
     (workers : ℕ) (r : Round)
@@ -234,8 +234,8 @@ report-entries workers r is =
 
 pub report-made : (workers : ℕ) (r : Round) → IsSoundlyMade workers r → made_report r ≡ report_of r
 report-made workers r is =
-    ap (report_text r.number) (told-made workers r is)
-    ∙ report-told r.number r.setup (made r).schedule (extras_in r) r.found.worker_steps
+    ap (report_text r.number) (reported-made workers r is)
+    ∙ report-reported r.number r.setup (made r).schedule (extras_in r) r.found.worker_steps
     ∙ sym (report-entries workers r is)
 
 pub exit-made : (workers : ℕ) (r : Round) → IsSoundlyMade workers r → made_exits r ≡ exits r

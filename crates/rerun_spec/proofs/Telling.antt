@@ -7,19 +7,19 @@ use Rattle.std.proofs.lemmas.List.Sums.{sum_by-cons}
 use Rattle.std.specs.List.{count_by}
 use Rattle.memory_spec.specs.declared.Size.TheVariants.{Four}
 use Rattle.memory_spec.specs.Pages.{Mapped, Memory, IsMemory, on_each, zero_page, slot_of, page_of}
-use Rattle.memory_spec.specs.Stores.{StoredByte, laid}
+use Rattle.memory_spec.specs.Stores.{StoredByte, with_stores}
 use Rattle.memory_spec.specs.Workspace.{Masks, no_marks, mask_of, marked, taken_at}
 use Rattle.memory_spec.specs.Access.{number_in, number_at}
 use Rattle.thunk_spec.specs.Put.{byte_at}
 use Rattle.thunk_spec.specs.Delta.{chosen, is_stored, delta_from, delta_of}
 use Rattle.thunk_spec.specs.Reads.{reads_from, reads_of}
-use Rattle.thunk_spec.proofs.Merging.{merged, merged_all, Shaped, shaped-laid, shaped-fresh, merged_all-laid, merged_all-no_marks}
+use Rattle.thunk_spec.proofs.Merging.{merged, merged_all, Shaped, shaped-with_stores, shaped-fresh, merged_all-with_stores, merged_all-no_marks}
 use Rattle.memo_spec.specs.Old.{stored_byte, read_byte, first_there, whole_word}
 
 -- a byte or a word that is told, if one is
 abbrev pub Tells : Option ℕ → ℕ → Type 0
 Tells None n = ⊤
-Tells (Some told) n = told ≡ n
+Tells (Some reported) n = reported ≡ n
 
 -- ---- stored bytes
 
@@ -170,21 +170,21 @@ first-tells true new old read tells = refl
 first-tells false new old read tells = tells
 
 -- the stored bytes over the read ones tell what the stores leave on the view
-pub laid-tells :
+pub with_stores-tells :
     (map : List Mapped) (view : Memory) (stores : List StoredByte) (taken : List ℕ) (slot i : ℕ)
     → IsMemory map view
     → Tells (first_there (stored_byte (delta_of map stores) slot i) (read_byte (reads_of map view taken) slot i))
-    (get_or (page_of (laid map view stores) slot) i 0)
+    (get_or (page_of (with_stores map view stores) slot) i 0)
 unfolding delta_of reads_of
-laid-tells map view stores taken slot i whole =
-    let ns : Memory = laid map (on_each zero_page map) stores in
+with_stores-tells map view stores taken slot i whole =
+    let ns : Memory = with_stores map (on_each zero_page map) stores in
     let ms : Masks = marked map (on_each no_marks map) stores in
     let fresh : Shaped view (on_each zero_page map) (on_each no_marks map) = shaped-fresh map view whole in
     let shaped : Shaped view ns ms =
-    shaped-laid map view (on_each zero_page map) (on_each no_marks map) stores fresh in
-    let is : merged_all view ns ms ≡ laid map view stores =
-    merged_all-laid map view (on_each zero_page map) (on_each no_marks map) stores fresh
-    ∙ ap (λ start. laid map start stores) (merged_all-no_marks map view) in
+    shaped-with_stores map view (on_each zero_page map) (on_each no_marks map) stores fresh in
+    let is : merged_all view ns ms ≡ with_stores map view stores =
+    merged_all-with_stores map view (on_each zero_page map) (on_each no_marks map) stores fresh
+    ∙ ap (λ start. with_stores map start stores) (merged_all-no_marks map view) in
     rw (stored-at view ns ms 0 slot slot i shaped (omega arith), ← is, merged_all-at view ns ms slot i shaped)
     (first-tells (get_or (mask_of ms slot) i false) (get_or (page_of ns slot) i 0) (get_or (page_of view slot) i 0)
     (read_byte (reads_from 0 (taken_at map (on_each false map) taken) view) slot i)
@@ -216,12 +216,12 @@ next-byte map memory a k aligned below =
 
 -- what tells each byte of an aligned word tells the word
 pub word-tells :
-    (map : List Mapped) (memory : Memory) (a : ℕ) (told : ℕ → Option ℕ)
-    → a % 4 ≡ 0 → ((address : ℕ) → Tells (told address) (byte_at map memory address))
-    → Tells (whole_word (told a) (told (a + 1)) (told (a + 2)) (told (a + 3))) (number_at map memory a Four)
+    (map : List Mapped) (memory : Memory) (a : ℕ) (reported : ℕ → Option ℕ)
+    → a % 4 ≡ 0 → ((address : ℕ) → Tells (reported address) (byte_at map memory address))
+    → Tells (whole_word (reported a) (reported (a + 1)) (reported (a + 2)) (reported (a + 3))) (number_at map memory a Four)
 unfolding number_at number_in
-word-tells map memory a told aligned tells =
-    whole-tells (told a) (told (a + 1)) (told (a + 2)) (told (a + 3)) _ _ _ _ (tells a)
-    (subst (Tells (told (a + 1))) (next-byte map memory a 1 aligned (omega arith)) (tells (a + 1)))
-    (subst (Tells (told (a + 2))) (next-byte map memory a 2 aligned (omega arith)) (tells (a + 2)))
-    (subst (Tells (told (a + 3))) (next-byte map memory a 3 aligned (omega arith)) (tells (a + 3)))
+word-tells map memory a reported aligned tells =
+    whole-tells (reported a) (reported (a + 1)) (reported (a + 2)) (reported (a + 3)) _ _ _ _ (tells a)
+    (subst (Tells (reported (a + 1))) (next-byte map memory a 1 aligned (omega arith)) (tells (a + 1)))
+    (subst (Tells (reported (a + 2))) (next-byte map memory a 2 aligned (omega arith)) (tells (a + 2)))
+    (subst (Tells (reported (a + 3))) (next-byte map memory a 3 aligned (omega arith)) (tells (a + 3)))

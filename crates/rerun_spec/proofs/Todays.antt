@@ -3,7 +3,7 @@ use Rattle.std.proofs.Common.{◌≡◌, ℕ, ◌%◌, Bool, true, false, ◌&&�
 use Rattle.isa_spec.specs.Registers.{Registers}
 use Rattle.memory_spec.specs.declared.Size.TheVariants.{Four}
 use Rattle.memory_spec.specs.Pages.{Mapped, Memory, IsMemory, slot_of}
-use Rattle.memory_spec.specs.Stores.{laid}
+use Rattle.memory_spec.specs.Stores.{with_stores}
 use Rattle.memory_spec.specs.Access.{number_at}
 use Rattle.thunk_spec.specs.Thunk.{Frame, thunk}
 use Rattle.thunk_spec.specs.Record.{Kept, kept_thunk}
@@ -21,43 +21,43 @@ use Rattle.history_spec.proofs.Mapped.{first-map}
 use Rattle.history_spec.proofs.Truth.{honest-coherent}
 use Rattle.memo_spec.specs.Encoding.{memo, IsEncodable}
 use Rattle.memo_spec.specs.Reading.{reading}
-use Rattle.memo_spec.specs.Old.{is_of_m, told_byte, told_word, is_illegal, tells_m, ends_at_m, last_ends_at_m, is_before_m}
+use Rattle.memo_spec.specs.Old.{is_of_m, known_byte, known_word, is_illegal, is_known_of_m, ends_at_m, last_ends_at_m, is_before_m}
 use Rattle.memo_spec.proofs.Laws.{encoded_is_read, memo_taken}
 use Rattle.rerun_spec.proofs.Illegal.{StandsAtIllegal, thunk-stands, undecoded-m}
-use Rattle.rerun_spec.proofs.Telling.{Tells, laid-tells, word-tells}
+use Rattle.rerun_spec.proofs.Telling.{Tells, with_stores-tells, word-tells}
 
-tells-none : (o : Option ℕ) (w : ℕ) → Tells o w → is_of_m w ≡ false → tells_m o ≡ false
-tells-none None w told other = refl
-tells-none (Some n) w told other = ap is_of_m told ∙ other
+tells-none : (o : Option ℕ) (w : ℕ) → Tells o w → is_of_m w ≡ false → is_known_of_m o ≡ false
+tells-none None w reported other = refl
+tells-none (Some n) w reported other = ap is_of_m reported ∙ other
 
 -- a record tells of an aligned word what its thunk left there
 kept-word :
     (f : Frame) (view : Memory) (r : Registers) (a : ℕ) → IsMemory f.map view → a % 4 ≡ 0
-    → Tells (told_word f.map (kept_thunk f view r) a)
-    (number_at f.map (laid f.map view (thunk f view r).stores) a Four)
+    → Tells (known_word f.map (kept_thunk f view r) a)
+    (number_at f.map (with_stores f.map view (thunk f view r).stores) a Four)
 unfolding kept_thunk
 kept-word f view r a whole aligned =
-    word-tells f.map (laid f.map view (thunk f view r).stores) a (told_byte f.map (kept_thunk f view r)) aligned
+    word-tells f.map (with_stores f.map view (thunk f view r).stores) a (known_byte f.map (kept_thunk f view r)) aligned
     (λ address.
-    laid-tells f.map view (thunk f view r).stores (thunk f view r).taken (slot_of f.map address) (address % 4096)
+    with_stores-tells f.map view (thunk f view r).stores (thunk f view r).taken (slot_of f.map address) (address % 4096)
     whole)
 
 -- what is kept of a thunk isn't from before M
 kept-todays :
     (f : Frame) (view : Memory) (r : Registers) (k : Kept) → IsMemory f.map view → k ≡ kept_thunk f view r
-    → (is_illegal k.end && tells_m (told_word f.map k k.finish.pc)) ≡ false
+    → (is_illegal k.end && is_known_of_m (known_word f.map k k.finish.pc)) ≡ false
 unfolding kept_thunk
 kept-todays f view r k whole is = rw is (here (is_illegal (thunk f view r).end) refl)
   where
     here :
         (b : Bool) → is_illegal (thunk f view r).end ≡ b
-        → (b && tells_m (told_word f.map (kept_thunk f view r) (thunk f view r).regs.pc)) ≡ false
+        → (b && is_known_of_m (known_word f.map (kept_thunk f view r) (thunk f view r).regs.pc)) ≡ false
     here false legal = refl
     here true illegal =
-        let stands : StandsAtIllegal f.map (laid f.map view (thunk f view r).stores) (thunk f view r).regs =
+        let stands : StandsAtIllegal f.map (with_stores f.map view (thunk f view r).stores) (thunk f view r).regs =
         thunk-stands f view r illegal in
-        tells-none (told_word f.map (kept_thunk f view r) (thunk f view r).regs.pc)
-        (number_at f.map (laid f.map view (thunk f view r).stores) (thunk f view r).regs.pc Four)
+        tells-none (known_word f.map (kept_thunk f view r) (thunk f view r).regs.pc)
+        (number_at f.map (with_stores f.map view (thunk f view r).stores) (thunk f view r).regs.pc Four)
         (kept-word f view r (thunk f view r).regs.pc whole stands.aligned)
         (undecoded-m _ stands.none)
 

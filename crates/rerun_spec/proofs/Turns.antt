@@ -15,10 +15,10 @@ use Rattle.isa_spec.specs.Registers.{Registers, register, with_register, with_pc
 use Rattle.isa_spec.specs.Operations.{branch_taken, immediate_result, shift_result, register_result}
 use Rattle.isa_spec.specs.Encoding.{InRange}
 use Rattle.isa_spec.specs.Table.{decoded}
-use Rattle.isa_spec.proofs.Spelling.{decoded_in_range}
+use Rattle.isa_spec.proofs.WordOf.{decoded_in_range}
 use Rattle.memory_spec.specs.declared.Size.TheVariants.{Four}
 use Rattle.memory_spec.specs.Pages.{Mapped, Memory}
-use Rattle.memory_spec.specs.Stores.{StoredByte, laid}
+use Rattle.memory_spec.specs.Stores.{StoredByte, with_stores}
 use Rattle.memory_spec.specs.Access.{byte_count, bytes_stored, loaded, fetched, may_store}
 use Rattle.thunk_spec.specs.declared.ends.Outcome.{Outcome}
 use Rattle.thunk_spec.specs.declared.ends.Outcome.TheVariants as outcome
@@ -27,7 +27,7 @@ use Rattle.thunk_spec.specs.Thunk.{Frame, Thunk, followed, turns, thunk}
 use Rattle.memo_spec.specs.Encoding.{AreRegisters, IsEnd}
 use Rattle.rerun_spec.proofs.Lists.{every-append}
 use Rattle.rerun_spec.proofs.Words.{IsWord, sum-word, extended-word, byte-word, half-word, immediate-word, shift-word, operation-word, register-word, moved-registers, written-registers}
-use Rattle.rerun_spec.proofs.Memory.{HasBytes, IsStore, AreStores, laid-bytes, stored-bytes, number_limit, FindsSmall, loaded-small, fetched-small}
+use Rattle.rerun_spec.proofs.Memory.{HasBytes, IsStore, AreStores, with_stores-bytes, stored-bytes, number_limit, FindsSmall, loaded-small, fetched-small}
 
 -- a trap of a turn has one of its eight causes
 abbrev pub IsOutcome : Outcome → Type 0
@@ -198,13 +198,13 @@ followed-thunk :
     → ((m : Memory) (r : Registers) → HasBytes m → AreRegisters r → IsThunk fuel (rest m r))
     → IsThunk (suc fuel) (followed o map memory t rest)
 followed-thunk fuel outcome.Next map memory t rest is fit bytes later =
-    let others = later (laid map memory t.stores) t.regs (laid-bytes map memory t.stores bytes fit.stores) fit.regs in
+    let others = later (with_stores map memory t.stores) t.regs (with_stores-bytes map memory t.stores bytes fit.stores) fit.regs in
     record {
       end = others.end;
       some_turns = λ some. omega arith;
       most_turns = let most = others.most_turns in omega arith;
       regs = others.regs;
-      stores = every-append IsStore t.stores (rest (laid map memory t.stores) t.regs).stores fit.stores others.stores;
+      stores = every-append IsStore t.stores (rest (with_stores map memory t.stores) t.regs).stores fit.stores others.stores;
     }
 followed-thunk fuel outcome.Call map memory t rest is fit bytes later =
     record {

@@ -333,7 +333,7 @@ pub fn each_round_reexecutes_the_least()
 /// The report of a round as it was made is that of the machine from scratch, and both agree on whether it ends by exit,
 /// if workers made it, its setup may be run, and its history is sound or none. The same holds for all rounds of a
 /// command line.
-pub fn made_rounds_are_told_right()
+pub fn made_rounds_are_reported_right()
     ensures report { (r : Round) (workers : ℕ)
         → CanGoBy r.past r.setup
         → IsMade workers r

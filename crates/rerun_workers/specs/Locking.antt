@@ -29,16 +29,16 @@ settled (suc n) w = with_reuse (settled n w) (pick_of (settled n w))
 
 -- The task of a worker on a settled round, and the round then. A step to execute is the one that is picked, and was
 -- taken. A worker has to wait, or the round is finished, if that is picked. If memory ran out, the round was stopped.
-abbrev pub TellsAfter : RoundState → Task → RoundState → Type 0
-TellsAfter w (task.Begin job) new =
+abbrev pub AssignsAfter : RoundState → Task → RoundState → Type 0
+AssignsAfter w (task.Begin job) new =
     (pick_of w ≡ pick.Run job.thread) × IsJobOf w.machine job.thread job × (new ≡ happens w (Take job.thread))
-TellsAfter w task.Hold new = (pick_of w ≡ pick.Hold) × (new ≡ w)
-TellsAfter w task.Over new = (pick_of w ≡ pick.Over) × (new ≡ w)
-TellsAfter w task.Memory new = new ≡ happens w Stop
+AssignsAfter w task.Hold new = (pick_of w ≡ pick.Hold) × (new ≡ w)
+AssignsAfter w task.Over new = (pick_of w ≡ pick.Over) × (new ≡ w)
+AssignsAfter w task.Memory new = new ≡ happens w Stop
 
 -- The task of a worker: records are reused as long as that is picked, and then comes what is picked.
-abbrev pub Tells : RoundState → Task → RoundState → Type 0
-Tells old told new = (n : ℕ) × TellsAfter (settled n old) told new
+abbrev pub Assigns : RoundState → Task → RoundState → Type 0
+Assigns old assigned new = (n : ℕ) × AssignsAfter (settled n old) assigned new
 
 -- The task isn't to execute a step.
 abbrev pub BeginsNothing : Task → Type 0

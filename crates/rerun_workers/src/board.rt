@@ -321,7 +321,7 @@ impl<J: Naming> Board<J> {
     /// is something for it. A worker for which there is nothing more to do wakes all. Steps that are reused meanwhile
     /// count as this worker's.
     pub fn next<R: Wait>(&self, rt: &R, pass: &mut Pass<J>) -> Task
-        ensures told { result ≢ task.Hold }
+        ensures assigned { result ≢ task.Hold }
         ensures own { BeginsIn (first J.setup).frame result }
         ensures never_lower { pass.old.steps ≤ pass.new.steps }
         ensures unedited { (h : History) → J.past ≡ Some h → IsUnedited h J.setup
@@ -370,7 +370,7 @@ impl<J: Naming> Board<J> {
         ensures taken { pass.new.taken.number ≡ pass.old.taken.number }
     {
         let outcome = self.lock.lock(rt).commit(pass, run);
-        self.wake_without_memory(&outcome);
+        self.wake_all_if_out_of_memory(&outcome);
         outcome
     }
 
@@ -386,12 +386,12 @@ impl<J: Naming> Board<J> {
         ensures taken { pass.new.taken.number ≡ pass.old.taken.number }
     {
         let outcome = self.lock.lock(rt).commit_taken(pass, run);
-        self.wake_without_memory(&outcome);
+        self.wake_all_if_out_of_memory(&outcome);
         outcome
     }
 
     /// Wakes all if memory ran out when a run was committed.
-    fn wake_without_memory(&self, outcome: &CommitOutcome) {
+    fn wake_all_if_out_of_memory(&self, outcome: &CommitOutcome) {
         if matches!(outcome, CommitOutcome::Memory(_)) {
             self.changed.notify_all();
         }

@@ -19,7 +19,7 @@ ghost use Rattle.std.proofs.Props.{props};
 ghost use Rattle.rerun_workers.specs.Watching.{IsCounting};
 ghost use Rattle.rerun_workers.specs.Passes.{held};
 ghost use Rattle.rerun_workers.specs.Tickets.{AreIssued, IsLastOf, IsNamed, IsTicketFor, IsRunOfTicket};
-ghost use Rattle.rerun_workers.specs.Locking.{Tells, TellsAfter, BeginsIn, BeginsNothing, begun_by, IsReady, given_up, Lands, HandsBack, steps_by, Counts};
+ghost use Rattle.rerun_workers.specs.Locking.{Assigns, AssignsAfter, BeginsIn, BeginsNothing, begun_by, IsReady, given_up, Lands, HandsBack, steps_by, Counts};
 
 use super::naming::{Naming, Pass};
 use super::watching::Counter;
@@ -205,7 +205,7 @@ impl<J: Naming> Locked<J> {
         requires named { IsNamed J.tickets ticket.old }
         requires picked { pick_of self.old.round ≡ pick.Run t }
         requires can { can_take self.old.round t ≡ true }
-        ensures does { TellsAfter self.old.round result self.new.round }
+        ensures does { AssignsAfter self.old.round result self.new.round }
         ensures same { GoesOn 0 self.old.round self.new.round }
         ensures own { BeginsIn (first J.setup).frame result }
         ensures unedited { (h : History) → J.past ≡ Some h → IsUnedited h J.setup
@@ -231,7 +231,7 @@ impl<J: Naming> Locked<J> {
     /// stopped. A step to execute has the page map and the fuel of the round's setup. If a ticket could be issued for
     /// it, the pass holds the ticket. Without an edit there is no step to execute.
     pub fn next(&mut self, pass: &mut Pass<J>) -> Task
-        ensures does { Tells self.old.round result self.new.round }
+        ensures does { Assigns self.old.round result self.new.round }
         ensures own { BeginsIn (first J.setup).frame result }
         ensures counts { Counts pass.old.steps self.old.round pass.new.steps self.new.round }
         ensures never_lower { pass.old.steps ≤ pass.new.steps }

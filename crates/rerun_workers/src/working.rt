@@ -97,7 +97,7 @@ fn next_task<J: Naming, R: Wait, G: Gate>(
     pass: &mut Pass<J>,
     gate: &G,
 ) -> Task
-    ensures told { result ≢ task.Hold }
+    ensures assigned { result ≢ task.Hold }
     ensures own { BeginsIn (first J.setup).frame result }
     ensures never_lower { pass.old.steps ≤ pass.new.steps }
     ensures unedited { (h : History) → J.past ≡ Some h → IsUnedited h J.setup

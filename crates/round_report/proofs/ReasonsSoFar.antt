@@ -12,12 +12,12 @@ use Rattle.round_spec.specs.Rounds.{RoundState}
 use Rattle.round_spec.specs.Schedules.{IsBySchedule}
 use Rattle.round_report.specs.declared.why.reason.Cause.{Cause}
 use Rattle.round_report.specs.declared.why.reason.Reason.{Reason}
-use Rattle.round_report.specs.Reasons.{made_before, scratch_before, cause_at, told_of_step, reason_of, reasons_by, reasons_of, is_executed}
+use Rattle.round_report.specs.Reasons.{made_before, scratch_before, cause_at, reason_of_step, reason_of, reasons_by, reasons_of, is_executed}
 use Rattle.round_report.proofs.Entries.{made-scratch}
 
 -- the reasons of the first entries, and the places of those of them that were executed
-abbrev pub told_so_far : RoundState → ℕ → List Reason
-told_so_far w i = filter_map (λ k. reason_of (made_before w) w k (slice_get w.schedule k)) (range_with_len 0 i)
+abbrev pub reported_so_far : RoundState → ℕ → List Reason
+reported_so_far w i = filter_map (λ k. reason_of (made_before w) w k (slice_get w.schedule k)) (range_with_len 0 i)
 
 abbrev pub executed_so_far : RoundState → ℕ → List ℕ
 executed_so_far w i = filter (λ k. is_executed (slice_get w.schedule k)) (range_with_len 0 i)
@@ -36,21 +36,21 @@ range-next i =
     ∙ ap (λ (k : ℕ). range_with_len 0 i ++ k ∷ []) (let same : 0 + i ≡ i = omega arith in same)
 
 -- what one place gives
-one-told : (h : ℕ → Option Reason) (i : ℕ) (o : Option Reason) → h i ≡ o → filter_map h (i ∷ []) ≡ option_to_list o
-one-told h i None is = ap (λ (o : Option Reason). cons_option o []) is
-one-told h i (Some r) is = ap (λ (o : Option Reason). cons_option o []) is
+one-reported : (h : ℕ → Option Reason) (i : ℕ) (o : Option Reason) → h i ≡ o → filter_map h (i ∷ []) ≡ option_to_list o
+one-reported h i None is = ap (λ (o : Option Reason). cons_option o []) is
+one-reported h i (Some r) is = ap (λ (o : Option Reason). cons_option o []) is
 
 -- one entry more
-pub told-next :
+pub reported-next :
     (w : RoundState) (i : ℕ) (reasons later : List Reason) (o : Option Reason)
-    → reasons ≡ told_so_far w i → later ≡ reasons ++ option_to_list o
+    → reasons ≡ reported_so_far w i → later ≡ reasons ++ option_to_list o
     → o ≡ reason_of (made_before w) w i (slice_get w.schedule i)
-    → later ≡ told_so_far w (i + 1)
-told-next w i reasons later o is pushed reason =
+    → later ≡ reported_so_far w (i + 1)
+reported-next w i reasons later o is pushed reason =
     pushed
     ∙ ap (λ (l : List Reason). l ++ option_to_list o) is
-    ∙ ap (λ (l : List Reason). told_so_far w i ++ l)
-    (sym (one-told (λ k. reason_of (made_before w) w k (slice_get w.schedule k)) i o (sym reason)))
+    ∙ ap (λ (l : List Reason). reported_so_far w i ++ l)
+    (sym (one-reported (λ k. reason_of (made_before w) w k (slice_get w.schedule k)) i o (sym reason)))
     ∙ sym (filter_map-append (λ k. reason_of (made_before w) w k (slice_get w.schedule k)) (range_with_len 0 i) (i ∷ []))
     ∙ ap (filter_map (λ k. reason_of (made_before w) w k (slice_get w.schedule k))) (sym (range-next i))
 
@@ -65,11 +65,11 @@ no-reason r i is = cc
 -- a cause is of its step
 step-by :
     (before : ℕ → Machine) (i t : ℕ) (r : Reason) (b : Bool) (cause : Option Cause)
-    → Some r ≡ cond b None (option_map (told_of_step before i t) cause)
+    → Some r ≡ cond b None (option_map (reason_of_step before i t) cause)
     → r.step ≡ i
 step-by before i t r true cause is = no-reason r i is
 step-by before i t r false None is = no-reason r i is
-step-by before i t r false (Some c) is = same-step r (told_of_step before i t c) is
+step-by before i t r false (Some c) is = same-step r (reason_of_step before i t c) is
 
 -- a reason is of its entry
 step-of :
@@ -107,20 +107,20 @@ each-next w i reasons later o is pushed reason some =
         ∙ sym (one-executed w i true some)
 
 -- all of them
-pub all-told : (w : RoundState) (reasons : List Reason) → reasons ≡ told_so_far w (length w.schedule) → reasons ≡ reasons_of w
+pub all-reported : (w : RoundState) (reasons : List Reason) → reasons ≡ reported_so_far w (length w.schedule) → reasons ≡ reasons_of w
 unfolding reasons_of
-all-told w reasons is = is
+all-reported w reasons is = is
 
 -- by a sound history they are those of the machine from scratch
 same-machines : (f g : ℕ → Machine) → ((k : ℕ) → f k ≡ g k) → f ≡ g
 same-machines f g each = λ i. λ k. each k i
 
-pub told-scratch :
+pub reported-scratch :
     (w : RoundState) (reasons : List Reason) → IsSetup w.setup → IsBySchedule w → IsSound w.past w.setup
     → reasons ≡ reasons_of w
     → reasons ≡ reasons_by (scratch_before w) w
 unfolding reasons_of
-told-scratch w reasons valid by sound is =
+reported-scratch w reasons valid by sound is =
     is
     ∙ ap (λ (before : ℕ → Machine). reasons_by before w)
     (same-machines (made_before w) (scratch_before w) (λ k. made-scratch w k valid by sound))

@@ -24,7 +24,7 @@ use Rattle.round_report.specs.declared.why.reason.Cause.{Cause}
 use Rattle.round_report.specs.declared.why.reason.Reason.{Reason}
 use Rattle.round_report.specs.Differences.{cause_of}
 use Rattle.round_report.specs.Storing.{view_since, last_store, gives_view}
-use Rattle.round_report.specs.Reasons.{made_before, cause_at, told_of_step, reason_of}
+use Rattle.round_report.specs.Reasons.{made_before, cause_at, reason_of_step, reason_of}
 use Rattle.round_report.specs.Walking.{IsBefore}
 use Rattle.round_report.proofs.Entries.{IsRecordOf, entry-can, entry-unfit, made-frame}
 
@@ -108,7 +108,7 @@ pub no-reason :
     → reason_of (made_before w) w i (slice_get w.schedule i) ≡ None
 no-reason w i e there reused =
     ap (reason_of (made_before w) w i) there
-    ∙ ap (λ (b : Bool). if b then None else option_map (told_of_step (made_before w) i e.thread) (cause_at (made_before w) w i e.thread)) reused
+    ∙ ap (λ (b : Bool). if b then None else option_map (reason_of_step (made_before w) i e.thread) (cause_at (made_before w) w i e.thread)) reused
 
 -- an executed one has that of its cause
 pub reason-is :
@@ -118,23 +118,23 @@ pub reason-is :
     ≡ cause_of addresses (last_store w.records (slice_index since e.thread)) (hart_of m e.thread)
     (record_for w.past m e.thread)
     → reason_of (made_before w) w i (slice_get w.schedule i)
-    ≡ option_map (told_of_step (made_before w) i e.thread) cause
+    ≡ option_map (reason_of_step (made_before w) i e.thread) cause
 reason-is w m since i addresses e cause is before are executed by =
     ap (reason_of (made_before w) w i) is.there
-    ∙ ap (λ (b : Bool). if b then None else option_map (told_of_step (made_before w) i e.thread) (cause_at (made_before w) w i e.thread)) executed
-    ∙ ap (option_map (told_of_step (made_before w) i e.thread))
+    ∙ ap (λ (b : Bool). if b then None else option_map (reason_of_step (made_before w) i e.thread) (cause_at (made_before w) w i e.thread)) executed
+    ∙ ap (option_map (reason_of_step (made_before w) i e.thread))
     (sym (by
     ∙ ap (λ (l : List ℕ). cause_of l (last_store w.records (slice_index since e.thread)) (hart_of m e.thread) (record_for w.past m e.thread)) are
     ∙ ap (λ (n : ℕ). cause_of (addresses_of w.setup) (last_store w.records n) (hart_of m e.thread) (record_for w.past m e.thread)) (before.views e.thread is.few)
     ∙ ap (λ (x : Machine). cause_of (addresses_of w.setup) (last_store w.records (view_since (made_before w) (threads_of w.schedule) i e.thread)) (hart_of x e.thread) (record_for w.past x e.thread)) before.machine))
 
 -- the reason with its parts
-pub told-of :
+pub reported-of :
     (w : RoundState) (m : Machine) (since : List ℕ) (i : ℕ) (addresses : List ℕ) (e : Entry) (number : ℕ) (cause : Cause)
     → IsKnown w m since i addresses e → IsBefore w m since i → number ≡ (hart_of m e.thread).number
     → Some (let r : Reason = record { step = i; thread = e.thread; number = number; cause = cause } in r)
-    ≡ option_map (told_of_step (made_before w) i e.thread) (Some cause)
-told-of w m since i addresses e number cause is before n =
+    ≡ option_map (reason_of_step (made_before w) i e.thread) (Some cause)
+reported-of w m since i addresses e number cause is before n =
     ap (λ (k : ℕ). Some (let r : Reason = record { step = i; thread = e.thread; number = k; cause = cause } in r))
     (n ∙ ap (λ (x : Machine). (hart_of x e.thread).number) before.machine)
 

@@ -26,14 +26,14 @@ cause_at before w i t =
     (hart_of (before i) t) (record_for w.past (before i) t)
 
 -- A cause, and the step that it is of.
-abbrev pub told_of_step : (ℕ → Machine) → ℕ → ℕ → Cause → Reason
-told_of_step before i t cause =
+abbrev pub reason_of_step : (ℕ → Machine) → ℕ → ℕ → Cause → Reason
+reason_of_step before i t cause =
     record { step = i; thread = t; number = (hart_of (before i) t).number; cause = cause }
 
 -- The reason of an entry: none if it is reused.
 abbrev pub reason_of : (ℕ → Machine) → RoundState → ℕ → Option Entry → Option Reason
 reason_of before w i None = None
-reason_of before w i (Some e) = if e.reused then None else option_map (told_of_step before i e.thread) (cause_at before w i e.thread)
+reason_of before w i (Some e) = if e.reused then None else option_map (reason_of_step before i e.thread) (cause_at before w i e.thread)
 
 -- The reasons of a round's entries, in order, by the machines before them.
 abbrev pub reasons_by : (ℕ → Machine) → RoundState → List Reason

@@ -18,12 +18,12 @@ use std::alloc::{AllocError, Global};
 ///
 /// An error if the host's memory ran out.
 #[tactic(auto, unfolding(crate::specs::Short::short_text))]
-pub fn short(alloc: Global, number: u64, told: &ReportData<'_>) -> Result<Vec<u8>, AllocError>
-    ensures { IfOk result (λ text. text.items ≡ short_text number told.now) }
+pub fn short(alloc: Global, number: u64, reported: &ReportData<'_>) -> Result<Vec<u8>, AllocError>
+    ensures { IfOk result (λ text. text.items ≡ short_text number reported.now) }
 {
-    let output = hex::encode(alloc, told.output)?;
+    let output = hex::encode(alloc, reported.output)?;
     let mut text = Vec::new(alloc);
-    append_short(alloc, number, told.ending, output.as_bytes(), &mut text)?;
+    append_short(alloc, number, reported.ending, output.as_bytes(), &mut text)?;
     Ok(text)
 }
 

@@ -12,12 +12,16 @@ use memo_reports::number_line;
 use std::alloc::{AllocError, Global};
 
 /// Appends how the run ended, after how many steps, and how many instructions they made.
-fn append_run(alloc: Global, told: &ReportData<'_>, into: &mut Vec<u8>) -> Result<(), AllocError>
-    ensures { OnOk result (into.new.items ≡ into.old.items ++ run_part told.now) }
+fn append_run(
+    alloc: Global,
+    reported: &ReportData<'_>,
+    into: &mut Vec<u8>,
+) -> Result<(), AllocError>
+    ensures { OnOk result (into.new.items ≡ into.old.items ++ run_part reported.now) }
 {
-    end_line(alloc, told.ending, into)?;
-    number_line(alloc, "steps", told.schedule.len() as u64, into)?;
-    number_line(alloc, "instructions", told.instructions, into)
+    end_line(alloc, reported.ending, into)?;
+    number_line(alloc, "steps", reported.schedule.len() as u64, into)?;
+    number_line(alloc, "instructions", reported.instructions, into)
 }
 
 /// The text of a replay: those lines of a report that neither reuse nor workers change if each step is executed, the
@@ -26,25 +30,25 @@ fn append_run(alloc: Global, told: &ReportData<'_>, into: &mut Vec<u8>) -> Resul
 /// # Errors
 ///
 /// An error if the host's memory ran out.
-pub fn replayed(alloc: Global, told: &ReportData<'_>) -> Result<Vec<u8>, AllocError>
-    ensures { IfOk result (λ text. text.items ≡ replay_text told.now) }
+pub fn replayed(alloc: Global, reported: &ReportData<'_>) -> Result<Vec<u8>, AllocError>
+    ensures { IfOk result (λ text. text.items ≡ replay_text reported.now) }
 {
-    let digested = Digested::of(told.memory)?;
-    replayed_with(alloc, told, &digested)
+    let digested = Digested::of(reported.memory)?;
+    replayed_with(alloc, reported, &digested)
 }
 
 /// The text, by the memory's digest.
 fn replayed_with(
     alloc: Global,
-    told: &ReportData<'_>,
+    reported: &ReportData<'_>,
     digested: &Digested,
 ) -> Result<Vec<u8>, AllocError>
-    requires { digested.now ≡ told.now.memory }
-    ensures { IfOk result (λ text. text.items ≡ replay_text told.now) }
+    requires { digested.now ≡ reported.now.memory }
+    ensures { IfOk result (λ text. text.items ≡ replay_text reported.now) }
 {
     let mut text = Vec::new(alloc);
     text.extend_from_slice(b"replay\n")?;
-    append_run(alloc, told, &mut text)?;
-    append_outcome(alloc, told, digested, &mut text)?;
+    append_run(alloc, reported, &mut text)?;
+    append_outcome(alloc, reported, digested, &mut text)?;
     Ok(text)
 }

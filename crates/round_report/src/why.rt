@@ -3,9 +3,9 @@
 mod differing;
 mod reason;
 mod storing;
-mod telling;
 mod walking;
+mod wording;
 
 pub use reason::{Cause, Reason};
-pub use telling::text;
 pub use walking::reasons;
+pub use wording::text;

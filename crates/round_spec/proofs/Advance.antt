@@ -142,10 +142,10 @@ module _
         })
         thread_is number_is
 
-    laid_is :
+    with_stores_is :
         apply (machine_at setup schedule i) (record_of (machine_at setup schedule i) (get_or schedule i 0))
         ≡ machine_at setup schedule (suc i)
-    laid_is =
+    with_stores_is =
         record-apply (machine_at setup schedule i) (get_or schedule i 0)
         (whole-at setup schedule like.valid like.permitted i) (can-at setup schedule like.valid like.permitted i below)
         ∙ sym (next-at setup schedule like.valid like.permitted i below)
@@ -154,7 +154,7 @@ module _
         is_none (apply (machine_at setup schedule i)
         (record_of (machine_at setup schedule i) (get_or schedule i 0))).ending ≡ true
     going_n =
-        ap (λ (m : Machine). is_none m.ending) laid_is
+        ap (λ (m : Machine). is_none m.ending) with_stores_is
         ∙ going-at setup schedule like.valid like.permitted (suc i) below_next
 
     step_like :
@@ -343,7 +343,7 @@ module _
         (taint_after (among_steps (facts h) among) (tainted (facts h) (changed h.setup setup) among at.come)
         (record_at h.records next.at))
         (apply at.old (record_at h.records next.at)) n)
-        (ap (apply (machine_at setup schedule i)) other_is ∙ laid_is)
+        (ap (apply (machine_at setup schedule i)) other_is ∙ with_stores_is)
         (near-apply (reads_in h.records) (among_steps (facts h) among)
         (tainted (facts h) (changed h.setup setup) among at.come) at.old (machine_at setup schedule i)
         (record_at h.records next.at) (record_of (machine_at setup schedule i) (get_or schedule i 0)).start
@@ -378,6 +378,6 @@ module _
           reading =
               reading-apply (reads_in h.records) at.old (record_at h.records next.at)
               (left_from 0 (next.at ∷ at.come) h.records) turn.reading_next;
-          told = turn.told_next;
+          reported = turn.reported_next;
           near = near_next;
         }

@@ -71,10 +71,10 @@ front-given reads m t a rs [] fs front whole fit other head =
     ap (λ (gs : List Fact). is_in a.thread (given_of gs)) (sym front.facts)
 front-given reads m t a rs (b ∷ rest) fs front whole fit other head =
     let here : (is_none m.ending && fits m b) ≡ true = and-left (is_none m.ending && fits m b) _ front.following.can in
-    let told : fs ≡ fact_of reads m b ∷ facts_from reads (apply m b) rest =
+    let reported : fs ≡ fact_of reads m b ∷ facts_from reads (apply m b) rest =
     sym front.facts ∙ fit-facts reads m b rest here in
-    let own : b.thread ≡ t = head (fact_of reads m b) (facts_from reads (apply m b) rest) told in
-    ap (λ (gs : List Fact). is_in a.thread (given_of gs)) told
+    let own : b.thread ≡ t = head (fact_of reads m b) (facts_from reads (apply m b) rest) reported in
+    ap (λ (gs : List Fact). is_in a.thread (given_of gs)) reported
     ∙ unserved m b a.thread whole (and-right (is_none m.ending) (fits m b) here) (fits-parts m a fit).ready
     (λ e. other (e ∙ own))
 
@@ -95,19 +95,19 @@ given-free reads t (a ∷ rs) m whole reading can may =
     and-right (is_none m.ending && fits m a) (can_apply_from (apply m a) rs) can in
     let none : is_none m.ending ≡ true = and-left (is_none m.ending) (fits m a) here in
     let fit : fits m a ≡ true = and-right (is_none m.ending) (fits m a) here in
-    let told : facts_from reads m (a ∷ rs) ≡ fact_of reads m a ∷ facts_from reads (apply m a) rs =
+    let reported : facts_from reads m (a ∷ rs) ≡ fact_of reads m a ∷ facts_from reads (apply m a) rs =
     fit-facts reads m a rs here in
     let all : IsFront reads m (a ∷ rs) (moved record_thread t (a ∷ rs))
     (moved fact_thread t (facts_from reads m (a ∷ rs))) = front reads t (a ∷ rs) m whole reading can may in
     elim (cases_eq a.thread t) [
-      | inl same ↦ (let own : eqb a.thread t ≡ true = eq-eqb a.thread t same in rw told (rw own refl))
+      | inl same ↦ (let own : eqb a.thread t ≡ true = eq-eqb a.thread t same in rw reported (rw own refl))
       | inr other ↦
           let not_own : eqb a.thread t ≡ false = grind (arith, nat_tests) in
           let may_told :
           (eqb a.thread t
           || (may_come t (facts_from reads (apply m a) rs)
           && is_free_of (fact_of reads m a) (moved fact_thread t (facts_from reads (apply m a) rs)))) ≡ true =
-          rw told at may in
+          rw reported at may in
           let may_next : may_come t (facts_from reads (apply m a) rs) ≡ true =
           and-left (may_come t (facts_from reads (apply m a) rs))
           (is_free_of (fact_of reads m a) (moved fact_thread t (facts_from reads (apply m a) rs)))
@@ -122,7 +122,7 @@ given-free reads t (a ∷ rs) m whole reading can may =
           (λ g gs is. head-thread t (facts_from reads m (a ∷ rs)) g gs may is) in
           let second : given_of (moved fact_thread t (facts_from reads m (a ∷ rs)))
           ≡ given_of (moved fact_thread t (facts_from reads (apply m a) rs)) =
-          ap (λ (gs : List Fact). given_of (moved fact_thread t gs)) told
+          ap (λ (gs : List Fact). given_of (moved fact_thread t gs)) reported
           ∙ (let is : moved fact_thread t (fact_of reads m a ∷ facts_from reads (apply m a) rs)
           ≡ set_second (fact_of reads m a) (moved fact_thread t (facts_from reads (apply m a) rs)) = (rw not_own refl) in
           ap given_of is)
@@ -131,7 +131,7 @@ given-free reads t (a ∷ rs) m whole reading can may =
           let apart_next : is_in a.thread (given_of (moved fact_thread t (facts_from reads (apply m a) rs))) ≡ false =
           ap (is_in a.thread) (sym second) ∙ apart in
           ap (λ (ks : List ℕ). ahead_free t ks (facts_from reads m (a ∷ rs))) second
-          ∙ ap (ahead_free t (given_of (moved fact_thread t (facts_from reads (apply m a) rs)))) told
+          ∙ ap (ahead_free t (given_of (moved fact_thread t (facts_from reads (apply m a) rs)))) reported
           ∙ (rw (not_own, apart_next) rest)
     ]
 

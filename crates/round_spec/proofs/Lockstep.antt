@@ -46,7 +46,7 @@ pub record IsAt (h : History) (setup : Setup) (schedule : List ℕ) (among : ℕ
   pub whole : IsWhole old
   pub can : can_apply_from old (left_from 0 come h.records) ≡ true
   pub reading : AllByRecursion (IsReading (reads_in h.records) old.frame) (left_from 0 come h.records)
-  pub told : facts_from (reads_in h.records) old (left_from 0 come h.records) ≡ left_from 0 come (facts h)
+  pub reported : facts_from (reads_in h.records) old (left_from 0 come h.records) ≡ left_from 0 come (facts h)
   pub near :
       IsNear (reads_in h.records) (among_steps (facts h) among)
       (tainted (facts h) (changed h.setup setup) among come) old (machine_at setup schedule i)
@@ -261,7 +261,7 @@ module _
     pub fit : fits at.old (record_at h.records j) ≡ true
     pub later : can_apply_from (apply at.old (record_at h.records j)) (left_from 0 (j ∷ at.come) h.records) ≡ true
     pub fact : fact_of (reads_in h.records) at.old (record_at h.records j) ≡ fact_at (facts h) j
-    pub told_next :
+    pub reported_next :
         facts_from (reads_in h.records) (apply at.old (record_at h.records j)) (left_from 0 (j ∷ at.come) h.records)
         ≡ left_from 0 (j ∷ at.come) (facts h)
     pub reading_next :
@@ -302,13 +302,13 @@ module _
     may :
         may_come (fact_at (facts h) j).thread (facts_from (reads_in h.records) at.old (left_from 0 at.come h.records))
         ≡ true
-    may = ap (may_come (fact_at (facts h) j).thread) at.told ∙ walked.may
+    may = ap (may_come (fact_at (facts h) j).thread) at.reported ∙ walked.may
 
     moved_facts :
         moved fact_thread (fact_at (facts h) j).thread
         (facts_from (reads_in h.records) at.old (left_from 0 at.come h.records))
         ≡ fact_at (facts h) j ∷ left_from 0 (j ∷ at.come) (facts h)
-    moved_facts = ap (moved fact_thread (fact_at (facts h) j).thread) at.told ∙ walked.front
+    moved_facts = ap (moved fact_thread (fact_at (facts h) j).thread) at.reported ∙ walked.front
 
     fronted :
         IsFront (reads_in h.records) at.old (left_from 0 at.come h.records)
@@ -340,7 +340,7 @@ module _
 
     free : ahead_free (fact_at (facts h) j).thread (fact_at (facts h) j).given (left_from 0 at.come (facts h)) ≡ true
     free =
-        ap (ahead_free (fact_at (facts h) j).thread (fact_at (facts h) j).given) (sym at.told)
+        ap (ahead_free (fact_at (facts h) j).thread (fact_at (facts h) j).given) (sym at.reported)
         ∙ ap (λ (gs : List Fact).
         ahead_free (fact_at (facts h) j).thread (given_of gs)
         (facts_from (reads_in h.records) at.old (left_from 0 at.come h.records))) (sym moved_facts)
@@ -364,7 +364,7 @@ module _
               (let is = both in
               let head : fact_of (reads_in h.records) at.old (record_at h.records j) ≡ fact_at (facts h) j =
               cc in head);
-          told_next =
+          reported_next =
               (let is = both in
               let rest : facts_from (reads_in h.records) (apply at.old (record_at h.records j))
               (left_from 0 (j ∷ at.come) h.records) ≡ left_from 0 (j ∷ at.come) (facts h) = cc in

@@ -71,7 +71,7 @@ module _
             subst (λ (rs : List Record). AllByRecursion (IsReading (reads_in h.records) (first h.setup).frame) rs)
             (sym (none-came 0 h.records))
             (honest-reading h like.honest);
-        told =
+        reported =
             ap (facts_from (reads_in h.records) (first h.setup)) (none-came 0 h.records) ∙ sym (none-came 0 (facts h));
         near =
             near-first (reads_in h.records) (among_steps (facts h) among)

@@ -187,7 +187,7 @@ pub fn no_history_changes_nothing()
 
 /// If the records of a history are numbered, a thread whose next step has no place in it is due. If the next step has a
 /// place, that step is at the place, and the thread is due exactly if all steps that must come before it are passed.
-pub fn places_tell_who_is_due()
+pub fn places_determine_who_is_due()
     ensures absent { (h : History) (m : Machine) (t : ℕ)
         → is_numbered h.records ≡ true
         → place_in (Some h) m t ≡ length h.records
@@ -208,7 +208,7 @@ pub fn places_tell_who_is_due()
 
 /// All steps that must come before a thread's next step are passed exactly if each other thread has made as many steps
 /// as the step's clock has for it, or has exited.
-pub fn clocks_tell_who_is_due()
+pub fn clocks_determine_who_is_due()
     ensures { (fs : List Fact) (m : Machine) (j : ℕ)
         → (hart_of m (fact_at fs j).thread).number ≡ number_at fs j
         → (are_passed_before fs m j ≡ true)

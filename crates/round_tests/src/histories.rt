@@ -77,7 +77,7 @@ fn compare<R: Abort>(rt: &R, facts: &[Fact], known: &[Known; 3]) {
 const CREATE: Words = [2, 0x1_0000, 0];
 
 #[test]
-fn calls_tell_their_facts(rt: HostRuntime) -> Result<(), Fail> {
+fn calls_report_their_facts(rt: HostRuntime) -> Result<(), Fail> {
     let alloc = rt.alloc();
     // One locks a mutex, and the other exits.
     let lock = (

@@ -13,7 +13,7 @@ use Rattle.memory_spec.specs.declared.Size.{Size}
 use Rattle.memory_spec.specs.declared.Size.TheVariants.{One, Two, Four}
 use Rattle.memory_spec.specs.declared.TheConstants.{PAGE_NUMBERS}
 use Rattle.memory_spec.specs.Pages.{Mapped, Memory, allows, execute_right, slot_of, permission_at, page_of, unmapped}
-use Rattle.memory_spec.specs.Stores.{with_byte, laid}
+use Rattle.memory_spec.specs.Stores.{with_byte, with_stores}
 use Rattle.memory_spec.specs.Access.{byte_count, byte_stored, bytes_stored, number_in, number_at, loaded, fetched, may_store}
 use Rattle.memory_spec.specs.Workspace.{Workspace, taken_at, after_taking, after_storing}
 use Rattle.thunk_spec.specs.declared.ends.Outcome.TheVariants.{Next}
@@ -86,20 +86,20 @@ with_byte-elsewhere map m number address value permitted other =
     (other-slot map number address permitted other)
 
 -- an aligned store elsewhere
-pub laid-elsewhere :
+pub with_stores-elsewhere :
     (map : List Mapped) (m : Memory) (number address value : ℕ) (size : Size)
     → allows execute_right (permission_at map (number * 4096)) ≡ true → address / 4096 ≢ number
     → address % byte_count size ≡ 0
-    → page_of (laid map m (bytes_stored address size value)) (slot_of map (number * 4096))
+    → page_of (with_stores map m (bytes_stored address size value)) (slot_of map (number * 4096))
     ≡ page_of m (slot_of map (number * 4096))
 unfolding bytes_stored
-laid-elsewhere map m number address value One permitted other aligned =
+with_stores-elsewhere map m number address value One permitted other aligned =
     with_byte-elsewhere map m number (address + 0) _ permitted (λ same. other (omega arith))
-laid-elsewhere map m number address value Two permitted other aligned =
+with_stores-elsewhere map m number address value Two permitted other aligned =
     let m0 = with_byte map m (byte_stored address value 0) in
     with_byte-elsewhere map m0 number (address + 1) _ permitted (λ same. other (omega arith))
     ∙ with_byte-elsewhere map m number (address + 0) _ permitted (λ same. other (omega arith))
-laid-elsewhere map m number address value Four permitted other aligned =
+with_stores-elsewhere map m number address value Four permitted other aligned =
     let m0 = with_byte map m (byte_stored address value 0) in
     let m1 = with_byte map m0 (byte_stored address value 1) in
     let m2 = with_byte map m1 (byte_stored address value 2) in
@@ -116,7 +116,7 @@ pub storing-runs_on :
 storing-runs_on w number address value size other aligned bytes runs =
     record {
       permitted = runs.permitted;
-      bytes_are = laid-elsewhere w.map w.memory number address value size runs.permitted other aligned ∙ runs.bytes_are;
+      bytes_are = with_stores-elsewhere w.map w.memory number address value size runs.permitted other aligned ∙ runs.bytes_are;
       taken = runs.taken;
     }
 

@@ -7,7 +7,7 @@ use Rattle.atomic_table.specs.Table.{State, Me, Step, Allows, Splits, Joins, ope
 use Rattle.atomic_table.proofs.Lists.{at_set, at_snoc, at_longer, set_again, set_else}
 use Rattle.machine_spec.specs.declared.TheConstants.{MOST_STEPS}
 use Rattle.shared_words.specs.declared.view.View.{View}
-use Rattle.shared_words.specs.Counting.{starter, spent, told, joined, raised, loaded, Fits, IsCounted, Adds, Loads}
+use Rattle.shared_words.specs.Counting.{starter, spent, informed, joined, raised, loaded, Fits, IsCounted, Adds, Loads}
 
 -- No truth value is both.
 off : {b : Bool} → b ≡ true → b ≡ false → ⊥
@@ -138,22 +138,22 @@ loads slots id me st s rule homes at fits =
         (sym (same_word s.words rule.one_word))
         (reader_steps s id me.0 w rule at is is (fit.others is) (omega arith))
 
-pub splits : (id : ℕ) (v : View) → Splits IsCounted id v v (told v)
+pub splits : (id : ℕ) (v : View) → Splits IsCounted id v v (informed v)
 splits id v s rule at =
     let same = set_again s.views id v at in
-    subst (λ (vs : List View). IsCounted record { words = s.words; homes = s.homes; views = vs ++ told v ∷ [] }) (sym same) record {
+    subst (λ (vs : List View). IsCounted record { words = s.words; homes = s.homes; views = vs ++ informed v ∷ [] }) (sym same) record {
       one_word = rule.one_word;
       few = rule.few;
       writer = rule.writer;
-      writers = (rule.writers.0, at_longer s.views (told v ∷ []) rule.writer rule.writers.0 rule.writers.1, rule.writers.2);
+      writers = (rule.writers.0, at_longer s.views (informed v ∷ []) rule.writer rule.writers.0 rule.writers.1, rule.writers.2);
       fits = λ j u e. ⊎_elim
           (λ was. rule.fits j u was)
-          (λ (is : told v ≡ u). subst (λ (y : View). Fits rule.writer (slice_index s.words 0) j y) is record {
+          (λ (is : informed v ≡ u). subst (λ (y : View). Fits rule.writer (slice_index s.words 0) j y) is record {
             own = λ e. absurd (true≢false (sym e));
             others = λ _. refl;
             below = (rule.fits id v at).below;
           })
-          (at_snoc s.views (told v) u j e);
+          (at_snoc s.views (informed v) u j e);
     }
 
 pub joins :

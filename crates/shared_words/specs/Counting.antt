@@ -15,8 +15,8 @@ abbrev pub spent : View
 spent = record { writer = false; added = 0; seen = 0; loads = 0 }
 
 -- the view of a new reader, which learns what this one has seen
-abbrev pub told : View → View
-told v = record { writer = false; added = 0; seen = v.seen; loads = 0 }
+abbrev pub informed : View → View
+informed v = record { writer = false; added = 0; seen = v.seen; loads = 0 }
 
 -- the first view, after it learned what the second has seen
 abbrev pub joined : View → View → View

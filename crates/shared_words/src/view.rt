@@ -41,17 +41,17 @@ impl Play<(), View> for Loading {
 }
 
 /// A new reader learns what the writer has seen, and the writer learns what a reader has seen.
-pub(super) struct Telling;
+pub(super) struct Informing;
 
-impl Split<View> for Telling {
-    ghost use Rattle.shared_words.specs.Counting.{told};
+impl Split<View> for Informing {
+    ghost use Rattle.shared_words.specs.Counting.{informed};
 
     ghost left = { λ v. v };
 
-    ghost right = { told };
+    ghost right = { informed };
 }
 
-impl Join<View> for Telling {
+impl Join<View> for Informing {
     ghost use Rattle.shared_words.specs.Counting.{joined, spent};
 
     ghost both = { joined };

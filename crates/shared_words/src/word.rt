@@ -3,7 +3,7 @@
 ghost use Rattle.std.specs.Prelude.{◌≡◌, ◌+◌, ◌<◌, ◌≤◌, max, IfOk};
 
 use super::reader::Reader;
-use super::view::{Adding, Counts, Loading, Telling, View};
+use super::view::{Adding, Counts, Informing, Loading, View};
 use super::writer::Writer;
 use atomic_table::Table;
 use machine_spec::MOST_STEPS;
@@ -66,7 +66,7 @@ impl Word {
         ensures seen { result.seen ≡ writer.old.seen }
         ensures loads { result.loads ≡ 0 }
     {
-        let seat = self.table.shared.split_seat::<Telling>(&mut writer.seat);
+        let seat = self.table.shared.split_seat::<Informing>(&mut writer.seat);
         Reader { seat }
     }
 
@@ -94,7 +94,7 @@ impl Word {
     {
         self.table
             .shared
-            .join_seat::<Telling>(&mut writer.seat, reader.seat);
+            .join_seat::<Informing>(&mut writer.seat, reader.seat);
     }
 
     /// How many steps the word counts, as its writer finds it: exactly those that were added, and at least as many as

@@ -13,7 +13,7 @@ use std::marker::Model;
 pub struct Effect {
     fate: Fate,
     woken: Queue,
-    told: Option<u32>,
+    reported: Option<u32>,
     created: Option<(u32, u32)>,
 }
 
@@ -22,7 +22,7 @@ impl Model for Effect {
 
     ghost Value = { spec.Effect };
 
-    ghost view = { λ e. record { fate = e.fate; woken = e.woken; told = e.told; created = e.created } };
+    ghost view = { λ e. record { fate = e.fate; woken = e.woken; reported = e.reported; created = e.created } };
 }
 
 impl Effect {
@@ -33,7 +33,7 @@ impl Effect {
         Effect {
             fate,
             woken,
-            told: None,
+            reported: None,
             created: None,
         }
     }
@@ -62,12 +62,12 @@ impl Effect {
     /// The caller ends with this value, which the woken threads receive.
     pub fn ends(value: u32, woken: Queue) -> Effect
         ensures { result
-            ≡ record { fate = Fate.Ends value; woken = woken; told = Some value; created = None } }
+            ≡ record { fate = Fate.Ends value; woken = woken; reported = Some value; created = None } }
     {
         Effect {
             fate: Fate::Ends(value),
             woken,
-            told: Some(value),
+            reported: Some(value),
             created: None,
         }
     }
@@ -79,7 +79,7 @@ impl Effect {
         Effect {
             fate: Fate::Returns(number, None),
             woken: Queue::empty(),
-            told: None,
+            reported: None,
             created: Some((pc, argument)),
         }
     }
@@ -106,10 +106,10 @@ impl Effect {
     }
 
     /// What the woken threads receive in a1, if anything.
-    pub fn told(&self) -> Option<u32>
-        ensures { result ≡ self.now.told }
+    pub fn reported(&self) -> Option<u32>
+        ensures { result ≡ self.now.reported }
     {
-        self.told
+        self.reported
     }
 
     /// The first pc and the argument of a thread that is created.

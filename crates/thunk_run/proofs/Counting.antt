@@ -2,7 +2,7 @@
 use Rattle.std.proofs.Common.{◌≤◌, ℕ, zero, suc, List, arith}
 use Rattle.isa_spec.specs.Registers.{Registers}
 use Rattle.memory_spec.specs.Pages.{Mapped, Memory}
-use Rattle.memory_spec.specs.Stores.{laid}
+use Rattle.memory_spec.specs.Stores.{with_stores}
 use Rattle.thunk_spec.specs.declared.ends.Outcome.{Outcome}
 use Rattle.thunk_spec.specs.declared.ends.Outcome.TheVariants as outcome
 use Rattle.thunk_spec.specs.Turn.{Turn, turn}
@@ -16,7 +16,7 @@ followed-within :
     → ((other : Memory) (r : Registers) → (rest other r).count ≤ fuel)
     → IsWithinFuel (suc fuel) (followed o map memory t rest).count
 followed-within fuel outcome.Next map memory t rest few =
-    record { some = λ _. omega arith; most = omega (arith, few (laid map memory t.stores) t.regs) }
+    record { some = λ _. omega arith; most = omega (arith, few (with_stores map memory t.stores) t.regs) }
 followed-within fuel outcome.Call map memory t rest few = record { some = λ _. omega arith; most = omega arith }
 followed-within fuel (outcome.Trap cause) map memory t rest few = record { some = λ _. omega arith; most = omega arith }
 

@@ -6,7 +6,7 @@ use Rattle.isa_spec.specs.Table.{decoded}
 use Rattle.memory_spec.specs.declared.Size.TheVariants.{Four}
 use Rattle.memory_spec.specs.Access.{number_at, fetched}
 use Rattle.memory_spec.specs.Pages.{Mapped, Memory, allows, execute_right, permission_at, page_of, slot_of}
-use Rattle.memory_spec.specs.Stores.{laid}
+use Rattle.memory_spec.specs.Stores.{with_stores}
 use Rattle.memory_spec.specs.Workspace.{Workspace, taken_at, after_taking, after_storing}
 use Rattle.thunk_spec.specs.declared.ends.Outcome.{Outcome}
 use Rattle.thunk_spec.specs.declared.ends.Outcome.TheVariants as outcome
@@ -33,7 +33,7 @@ followed-takes :
     (o : Outcome) (map : List Mapped) (memory : Memory) (address : ℕ) (t : Turn) (rest : Memory → Registers → Thunk)
     → (addresses : List ℕ) × (followed o map memory (with_fetch address t) rest).taken ≡ address ∷ addresses
 followed-takes outcome.Next map memory address t rest =
-    (t.taken ++ (rest (laid map memory t.stores) t.regs).taken, refl)
+    (t.taken ++ (rest (with_stores map memory t.stores) t.regs).taken, refl)
 followed-takes outcome.Call map memory address t rest = (t.taken, refl)
 followed-takes (outcome.Trap cause) map memory address t rest = (t.taken, refl)
 

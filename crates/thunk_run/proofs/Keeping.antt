@@ -8,7 +8,7 @@ use Rattle.thunk_spec.specs.Thunk.{Frame, thunk, turns}
 use Rattle.thunk_spec.specs.Delta.{PageDelta, delta_from}
 use Rattle.thunk_spec.specs.Reads.{ReadPage, reads_from, reads_of}
 use Rattle.thunk_spec.specs.Record.{kept_thunk}
-use Rattle.priv_space.proofs.Collecting.{delta_from-laid}
+use Rattle.priv_space.proofs.Collecting.{delta_from-with_stores}
 use Rattle.thunk_run.specs.TurnsOutcome.{TurnsOutcome, left_after, with_put_taken}
 use Rattle.thunk_run.proofs.Leaving.{taken_at-append}
 
@@ -29,7 +29,7 @@ pub kept-left :
 unfolding kept_thunk thunk reads_of
 kept-left f view r whole =
     rw (
-      delta_from-laid f.map view (turns f.map f.fuel view r).stores whole,
+      delta_from-with_stores f.map view (turns f.map f.fuel view r).stores whole,
       ← taken_at-append f.map (on_each false f.map) (turns f.map f.fuel view r).taken
           (put_addresses f.map (turns f.map f.fuel view r).end (turns f.map f.fuel view r).regs),
     )

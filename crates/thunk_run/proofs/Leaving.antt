@@ -3,7 +3,7 @@ use Rattle.std.proofs.Common.{◌≡◌, ℕ, ◌+◌, ◌-◌, ◌<◌, suc, Bo
 use Rattle.isa_spec.specs.declared.Cause.{Cause}
 use Rattle.isa_spec.specs.Registers.{Registers}
 use Rattle.memory_spec.specs.Pages.{Mapped, Memory, slot_of}
-use Rattle.memory_spec.specs.Stores.{StoredByte, laid, with_byte}
+use Rattle.memory_spec.specs.Stores.{StoredByte, with_stores, with_byte}
 use Rattle.memory_spec.specs.Workspace.{Workspace, Masks, marked, with_mark, taken_at, after_taking, after_storing}
 use Rattle.thunk_spec.specs.declared.ends.Outcome.{Outcome}
 use Rattle.thunk_spec.specs.declared.ends.Outcome.TheVariants as outcome
@@ -14,11 +14,11 @@ use Rattle.thunk_spec.specs.Thunk.{Thunk, turns, followed, after_turn, last_turn
 use Rattle.rv_step.specs.Step.{Makes}
 use Rattle.thunk_run.specs.TurnsOutcome.{TurnsOutcome, left_by, left_after, counted}
 
-pub laid-append :
+pub with_stores-append :
     (map : List Mapped) (memory : Memory) (xs ys : List StoredByte)
-    → laid map memory (xs ++ ys) ≡ laid map (laid map memory xs) ys
-laid-append map memory [] ys = refl
-laid-append map memory (x ∷ xs) ys = laid-append map (with_byte map memory x) xs ys
+    → with_stores map memory (xs ++ ys) ≡ with_stores map (with_stores map memory xs) ys
+with_stores-append map memory [] ys = refl
+with_stores-append map memory (x ∷ xs) ys = with_stores-append map (with_byte map memory x) xs ys
 
 pub marked-append :
     (map : List Mapped) (masks : Masks) (xs ys : List StoredByte)
@@ -38,7 +38,7 @@ pub left_by-after_turn :
     → left_by w (after_turn t rest) ≡ counted 1 (left_by (after_storing (after_taking w t.taken) t.stores) rest)
 left_by-after_turn w t rest =
     rw (
-      laid-append w.map w.memory t.stores rest.stores,
+      with_stores-append w.map w.memory t.stores rest.stores,
       marked-append w.map w.stored t.stores
           rest.stores,
       taken_at-append w.map w.taken t.taken rest.taken,
@@ -50,7 +50,7 @@ left_by-after_turn w t rest =
       workspace = record {
         map = w.map;
         view = w.view;
-        memory = laid w.map (laid w.map w.memory t.stores) rest.stores;
+        memory = with_stores w.map (with_stores w.map w.memory t.stores) rest.stores;
         stored = marked w.map (marked w.map w.stored t.stores) rest.stores;
         taken = taken_at w.map (taken_at w.map w.taken t.taken) rest.taken;
       };
@@ -58,7 +58,7 @@ left_by-after_turn w t rest =
 
 followed-next :
     (o : Outcome) (map : List Mapped) (memory : Memory) (t : Turn) (rest : Memory → Registers → Thunk)
-    → o ≡ outcome.Next → followed o map memory t rest ≡ after_turn t (rest (laid map memory t.stores) t.regs)
+    → o ≡ outcome.Next → followed o map memory t rest ≡ after_turn t (rest (with_stores map memory t.stores) t.regs)
 followed-next o map memory t rest e = rw e refl
 
 followed-call :
@@ -90,7 +90,7 @@ turns-next fuel count w after r registers o lt made next =
     (turns w.map (fuel - (count + 1))) (sym made.outcome_is ∙ next))
     ∙ ap (counted count)
     (left_by-after_turn w (turn w.map w.memory r)
-    (turns w.map (fuel - (count + 1)) (laid w.map w.memory (turn w.map w.memory r).stores)
+    (turns w.map (fuel - (count + 1)) (with_stores w.map w.memory (turn w.map w.memory r).stores)
     (turn w.map w.memory r).regs))
     ∙ counted-twice count 1
     (left_after (fuel - (count + 1))

@@ -56,16 +56,16 @@ pub(super) fn make_turns<M: Mem, W: Watch>(
     let mut slots = vec![in alloc; Seen::Nothing; frame.map().len()]?;
     let seen = slots.as_mut_slice();
     let mut until = fuel.min(FIRST_TURNS);
-    let mut told = false;
+    let mut reported = false;
     let mut count = 0;
     while count < fuel {
         count += run_pages(regs, mem, code, seen, until - count, turns)?;
         if count == fuel {
             break;
         }
-        if count >= LONG_TURNS && !told {
+        if count >= LONG_TURNS && !reported {
             watch.runs_long();
-            told = true;
+            reported = true;
             until = fuel;
         }
         count += 1;

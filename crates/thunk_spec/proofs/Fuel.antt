@@ -5,7 +5,7 @@ use Rattle.std.proofs.lemmas.Bool.{leb-true, eqb-true, le-leb}
 use Rattle.std.proofs.lemmas.Bool.Decides.{nat_tests}
 use Rattle.isa_spec.specs.Registers.{Registers}
 use Rattle.memory_spec.specs.Pages.{Mapped, Memory}
-use Rattle.memory_spec.specs.Stores.{laid}
+use Rattle.memory_spec.specs.Stores.{with_stores}
 use Rattle.thunk_spec.specs.declared.ends.Outcome.{Outcome}
 use Rattle.thunk_spec.specs.declared.ends.Outcome.TheVariants as outcome
 use Rattle.thunk_spec.specs.declared.ends.ThunkEnd.{ThunkEnd}
@@ -39,9 +39,9 @@ followed-within :
     (followed o map memory t (turns map fuel)).count ≡ true
     → followed o map memory t (turns map other) ≡ followed o map memory t (turns map fuel)
 followed-within map fuel other outcome.Next memory t rest within =
-    let later : Thunk = turns map fuel (laid map memory t.stores) t.regs in
+    let later : Thunk = turns map fuel (with_stores map memory t.stores) t.regs in
     ap (after_turn t)
-    (rest (laid map memory t.stores) t.regs (sym (within-more other later.end later.count) ∙ within))
+    (rest (with_stores map memory t.stores) t.regs (sym (within-more other later.end later.count) ∙ within))
 followed-within map fuel other outcome.Call memory t rest within = refl
 followed-within map fuel other (outcome.Trap cause) memory t rest within = refl
 
@@ -101,8 +101,8 @@ followed-own :
     → may_end (suc fuel) (followed o map memory t rest).end (followed o map memory t rest).count ≡ true
 unfolding may_end
 followed-own map fuel outcome.Next memory t rest within =
-    let later : Thunk = rest (laid map memory t.stores) t.regs in
-    within-more fuel later.end later.count ∙ within (laid map memory t.stores) t.regs
+    let later : Thunk = rest (with_stores map memory t.stores) t.regs in
+    within-more fuel later.end later.count ∙ within (with_stores map memory t.stores) t.regs
 followed-own map fuel outcome.Call memory t rest within = le-leb 1 (suc fuel) (omega arith)
 followed-own map fuel (outcome.Trap cause) memory t rest within = le-leb 1 (suc fuel) (omega arith)
 

@@ -4,7 +4,7 @@ use Rattle.std.specs.List.{All, AllByRecursion, list_any}
 use Rattle.std.proofs.lemmas.List.{length-set, length-replicate}
 use Rattle.std.proofs.lemmas.List.Elements.{recursion_from_All}
 use Rattle.memory_spec.specs.Pages.{Mapped, Memory, on_each, zero_page, page_of, slot_of, IsMemory}
-use Rattle.memory_spec.specs.Stores.{StoredByte, with_byte, laid}
+use Rattle.memory_spec.specs.Stores.{StoredByte, with_byte, with_stores}
 use Rattle.memory_spec.specs.Workspace.{Masks, no_marks, mask_of, with_mark, marked}
 use Rattle.thunk_spec.specs.Delta.{PageDelta, chosen, spread, is_stored, delta_from, delta_of, masked}
 
@@ -68,25 +68,25 @@ shaped-set (o ∷ os) (n ∷ ns) [] s a b h = absurd h
 shaped-set (o ∷ os) (n ∷ ns) (m ∷ ms) zero a b h = (length-set n a b ∙ h.0, length-set m a true ∙ h.1, h.2)
 shaped-set (o ∷ os) (n ∷ ns) (m ∷ ms) (suc s) a b h = (h.0, h.1, shaped-set os ns ms s a b h.2)
 
-pub shaped-laid :
+pub shaped-with_stores :
     (map : List Mapped) (os ns : Memory) (ms : Masks) (stores : List StoredByte)
-    → Shaped os ns ms → Shaped os (laid map ns stores) (marked map ms stores)
+    → Shaped os ns ms → Shaped os (with_stores map ns stores) (marked map ms stores)
 unfolding with_byte with_mark
-shaped-laid map os ns ms [] h = h
-shaped-laid map os ns ms (s ∷ stores) h =
-    shaped-laid map os (with_byte map ns s) (with_mark map ms s) stores
+shaped-with_stores map os ns ms [] h = h
+shaped-with_stores map os ns ms (s ∷ stores) h =
+    shaped-with_stores map os (with_byte map ns s) (with_mark map ms s) stores
     (shaped-set os ns ms (slot_of map s.address) (s.address % 4096) s.byte h)
 
-pub merged_all-laid :
+pub merged_all-with_stores :
     (map : List Mapped) (os ns : Memory) (ms : Masks) (stores : List StoredByte)
     → Shaped os ns ms
-    → merged_all os (laid map ns stores) (marked map ms stores) ≡ laid map (merged_all os ns ms) stores
+    → merged_all os (with_stores map ns stores) (marked map ms stores) ≡ with_stores map (merged_all os ns ms) stores
 unfolding with_byte with_mark
-merged_all-laid map os ns ms [] h = refl
-merged_all-laid map os ns ms (s ∷ stores) h =
-    merged_all-laid map os (with_byte map ns s) (with_mark map ms s) stores
+merged_all-with_stores map os ns ms [] h = refl
+merged_all-with_stores map os ns ms (s ∷ stores) h =
+    merged_all-with_stores map os (with_byte map ns s) (with_mark map ms s) stores
     (shaped-set os ns ms (slot_of map s.address) (s.address % 4096) s.byte h)
-    ∙ ap (λ memory. laid map memory stores)
+    ∙ ap (λ memory. with_stores map memory stores)
     (merged_all-set os ns ms (slot_of map s.address) (s.address % 4096) s.byte h)
 
 -- with no mark, what is merged is the old page
@@ -205,10 +205,10 @@ masked-delta_from (o ∷ os) (n ∷ ns) (m ∷ ms) h =
 pub masked-delta_of :
     (map : List Mapped) (memory : Memory) (stores : List StoredByte)
     → IsMemory map memory
-    → masked memory (delta_of map stores) ≡ laid map memory stores
+    → masked memory (delta_of map stores) ≡ with_stores map memory stores
 unfolding delta_of
 masked-delta_of map memory stores h =
-    masked-delta_from memory (laid map (on_each zero_page map) stores) (marked map (on_each no_marks map) stores)
-    (shaped-laid map memory (on_each zero_page map) (on_each no_marks map) stores (shaped-fresh map memory h))
-    ∙ merged_all-laid map memory (on_each zero_page map) (on_each no_marks map) stores (shaped-fresh map memory h)
-    ∙ ap (λ start. laid map start stores) (merged_all-no_marks map memory)
+    masked-delta_from memory (with_stores map (on_each zero_page map) stores) (marked map (on_each no_marks map) stores)
+    (shaped-with_stores map memory (on_each zero_page map) (on_each no_marks map) stores (shaped-fresh map memory h))
+    ∙ merged_all-with_stores map memory (on_each zero_page map) (on_each no_marks map) stores (shaped-fresh map memory h)
+    ∙ ap (λ start. with_stores map start stores) (merged_all-no_marks map memory)

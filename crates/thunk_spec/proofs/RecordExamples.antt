@@ -2,7 +2,7 @@
 use Rattle.std.proofs.Common.{◌≡◌, true, false, List, [], ◌∷◌, refl}
 use Rattle.isa_spec.specs.Registers.{with_pc}
 use Rattle.memory_spec.specs.Pages.{Memory}
-use Rattle.memory_spec.specs.Stores.{StoredByte, with_byte, laid}
+use Rattle.memory_spec.specs.Stores.{StoredByte, with_byte, with_stores}
 use Rattle.memory_spec.specs.Workspace.{Masks, with_mark, marked}
 use Rattle.thunk_spec.specs.declared.ends.ThunkEnd.TheVariants.{Call, Fuel}
 use Rattle.thunk_spec.proofs.Guests.{map, start}
@@ -26,7 +26,7 @@ abbrev pub delta : List PageDelta
 delta = record { slot = 1; mask = false ∷ true ∷ false ∷ true ∷ []; bytes = 7 ∷ 6 ∷ [] } ∷ []
 
 -- What they leave: slot 1 alone, the places 1 and 3, and there the last byte of each.
-pub delta-stores : delta_from 0 (marked map clear stores) (laid map zeros stores) ≡ delta
+pub delta-stores : delta_from 0 (marked map clear stores) (with_stores map zeros stores) ≡ delta
 unfolding with_byte with_mark
 delta-stores = refl
 
@@ -37,9 +37,9 @@ memory = (1 ∷ 2 ∷ 3 ∷ 4 ∷ []) ∷ (10 ∷ 11 ∷ 12 ∷ 13 ∷ []) ∷ [
 pub masked-memory : masked memory delta ≡ (1 ∷ 2 ∷ 3 ∷ 4 ∷ []) ∷ (10 ∷ 7 ∷ 12 ∷ 6 ∷ []) ∷ []
 masked-memory = refl
 
-pub laid-memory : laid map memory stores ≡ (1 ∷ 2 ∷ 3 ∷ 4 ∷ []) ∷ (10 ∷ 7 ∷ 12 ∷ 6 ∷ []) ∷ []
+pub with_stores-memory : with_stores map memory stores ≡ (1 ∷ 2 ∷ 3 ∷ 4 ∷ []) ∷ (10 ∷ 7 ∷ 12 ∷ 6 ∷ []) ∷ []
 unfolding with_byte
-laid-memory = refl
+with_stores-memory = refl
 
 -- A stored byte that is the one that stood there is kept all the same.
 pub masked-equal : masked memory (record { slot = 0; mask = true ∷ []; bytes = 1 ∷ [] } ∷ []) ≡ memory

@@ -5,7 +5,7 @@ use Rattle.std.proofs.lemmas.List.{get_or-set_other}
 use Rattle.std.specs.List.{AllByRecursion}
 use Rattle.isa_spec.specs.Registers.{Registers}
 use Rattle.memory_spec.specs.Pages.{Mapped, Memory, slot_of, page_of}
-use Rattle.memory_spec.specs.Stores.{StoredByte, with_byte, laid}
+use Rattle.memory_spec.specs.Stores.{StoredByte, with_byte, with_stores}
 use Rattle.thunk_spec.specs.declared.ends.Outcome.{Outcome}
 use Rattle.thunk_spec.specs.declared.ends.Outcome.TheVariants as outcome
 use Rattle.thunk_spec.specs.Put.{put_addresses, byte_at, bytes_at}
@@ -39,21 +39,21 @@ same-with_byte map view other s k same =
           ∙ sym (get_or-set_other view (slot_of map s.address) k _ [] elsewhere)
     ]
 
-pub same-laid :
+pub same-with_stores :
     (map : List Mapped) (view other : Memory) (stores : List StoredByte) (k : ℕ)
     → page_of other k ≡ page_of view k
-    → page_of (laid map other stores) k ≡ page_of (laid map view stores) k
-same-laid map view other [] k same = same
-same-laid map view other (s ∷ stores) k same =
-    same-laid map (with_byte map view s) (with_byte map other s) stores k (same-with_byte map view other s k same)
+    → page_of (with_stores map other stores) k ≡ page_of (with_stores map view stores) k
+same-with_stores map view other [] k same = same
+same-with_stores map view other (s ∷ stores) k same =
+    same-with_stores map (with_byte map view s) (with_byte map other s) stores k (same-with_byte map view other s k same)
 
-pub agree-laid :
+pub agree-with_stores :
     (map : List Mapped) (view other : Memory) (stores : List StoredByte) (addresses : List ℕ)
     → Agree map view other addresses
-    → Agree map (laid map view stores) (laid map other stores) addresses
-agree-laid map view other stores [] agree = tt
-agree-laid map view other stores (a ∷ addresses) agree =
-    (same-laid map view other stores (slot_of map a) agree.0, agree-laid map view other stores addresses agree.1)
+    → Agree map (with_stores map view stores) (with_stores map other stores) addresses
+agree-with_stores map view other stores [] agree = tt
+agree-with_stores map view other stores (a ∷ addresses) agree =
+    (same-with_stores map view other stores (slot_of map a) agree.0, agree-with_stores map view other stores addresses agree.1)
 
 pub agree-front :
     (map : List Mapped) (view other : Memory) (xs ys : List ℕ)
@@ -74,7 +74,7 @@ agree-turn :
     (rest : Memory → Registers → Thunk)
     → Agree map view other (followed o map memory t rest).taken → Agree map view other t.taken
 agree-turn map view other outcome.Next memory t rest agree =
-    agree-front map view other t.taken (rest (laid map memory t.stores) t.regs).taken agree
+    agree-front map view other t.taken (rest (with_stores map memory t.stores) t.regs).taken agree
 agree-turn map view other outcome.Call memory t rest agree = agree
 agree-turn map view other (outcome.Trap cause) memory t rest agree = agree
 
@@ -85,9 +85,9 @@ followed-same :
     → followed o map other t rest ≡ followed o map view t rest
 followed-same map view other outcome.Next t rest later agree =
     ap (after_turn t)
-    (later (laid map view t.stores) (laid map other t.stores) t.regs
-    (agree-laid map view other t.stores (rest (laid map view t.stores) t.regs).taken
-    (agree-back map view other t.taken (rest (laid map view t.stores) t.regs).taken agree)))
+    (later (with_stores map view t.stores) (with_stores map other t.stores) t.regs
+    (agree-with_stores map view other t.stores (rest (with_stores map view t.stores) t.regs).taken
+    (agree-back map view other t.taken (rest (with_stores map view t.stores) t.regs).taken agree)))
 followed-same map view other outcome.Call t rest later agree = refl
 followed-same map view other (outcome.Trap cause) t rest later agree = refl
 
@@ -118,8 +118,8 @@ with_put-same :
     → with_put map other t ≡ with_put map view t
 with_put-same map view other t agree =
     ap (λ (bytes : List ℕ). record t { taken = t.taken ++ put_addresses map t.end t.regs; put = bytes })
-    (bytes_at-same map (laid map view t.stores) (laid map other t.stores) (put_addresses map t.end t.regs)
-    (agree-laid map view other t.stores (put_addresses map t.end t.regs) agree))
+    (bytes_at-same map (with_stores map view t.stores) (with_stores map other t.stores) (put_addresses map t.end t.regs)
+    (agree-with_stores map view other t.stores (put_addresses map t.end t.regs) agree))
 
 -- a thunk depends on the pages that it took bytes from, and on no other page of the view
 pub thunk-same :

@@ -7,7 +7,7 @@ use Rattle.std.proofs.lemmas.Slice.Eq.{bytes_eq-Decides}
 use Rattle.std.specs.Str.{bytes_eq}
 use Rattle.isa_spec.specs.Registers.{Registers}
 use Rattle.memory_spec.specs.Pages.{Mapped, Memory, on_each, page_of, slot_of, IsMemory}
-use Rattle.memory_spec.specs.Stores.{StoredByte, laid}
+use Rattle.memory_spec.specs.Stores.{StoredByte, with_stores}
 use Rattle.memory_spec.specs.Workspace.{taken_at}
 use Rattle.thunk_spec.specs.Put.{put_addresses, bytes_at}
 use Rattle.thunk_spec.specs.Thunk.{Frame, Thunk, thunk}
@@ -161,7 +161,7 @@ IsTrue-kept f view r whole =
 thunk-put :
     (f : Frame) (view : Memory) (r : Registers)
     → (thunk f view r).put
-    ≡ bytes_at f.map (laid f.map view (thunk f view r).stores)
+    ≡ bytes_at f.map (with_stores f.map view (thunk f view r).stores)
     (put_addresses f.map (thunk f view r).end (thunk f view r).regs)
 unfolding thunk
 thunk-put f view r = refl

@@ -2,7 +2,7 @@
 use Rattle.std.specs.Prelude.{ℕ, suc, Bool, true, false, if◌then◌else◌, List, [], ◌∷◌, slice_set}
 use Rattle.std.specs.List.{list_any}
 use Rattle.memory_spec.specs.Pages.{Mapped, Memory, on_each, zero_page, page_of}
-use Rattle.memory_spec.specs.Stores.{StoredByte, laid}
+use Rattle.memory_spec.specs.Stores.{StoredByte, with_stores}
 use Rattle.memory_spec.specs.Workspace.{Masks, no_marks, marked}
 
 -- A page's slot, the mask of the places that were stored to, and the bytes at these places in ascending order.
@@ -40,7 +40,7 @@ delta_from k (mask ∷ masks) (page ∷ pages) =
 -- The delta of stores, apart from any view: the places that they wrote, and the bytes there after them in a memory of
 -- zeros.
 unfoldable pub delta_of : List Mapped → List StoredByte → List PageDelta
-delta_of map stores = delta_from 0 (marked map (on_each no_marks map) stores) (laid map (on_each zero_page map) stores)
+delta_of map stores = delta_from 0 (marked map (on_each no_marks map) stores) (with_stores map (on_each zero_page map) stores)
 
 -- A memory after the masked bytes of a delta were written.
 abbrev pub masked : Memory → List PageDelta → Memory

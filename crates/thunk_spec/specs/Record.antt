@@ -2,7 +2,7 @@
 use Rattle.std.specs.Prelude.{◌≡◌, ℕ, Bool, true, nat_le, ◌&&◌, ◌==◌, List}
 use Rattle.isa_spec.specs.Registers.{Registers, same_registers}
 use Rattle.memory_spec.specs.Pages.{Mapped, Memory, IsMemory}
-use Rattle.memory_spec.specs.Stores.{laid}
+use Rattle.memory_spec.specs.Stores.{with_stores}
 use Rattle.thunk_spec.specs.declared.ends.ThunkEnd.{ThunkEnd}
 use Rattle.thunk_spec.specs.declared.ends.ThunkEnd.TheVariants as thunk_end
 use Rattle.thunk_spec.specs.Put.{put_addresses, bytes_at}
@@ -67,7 +67,7 @@ fits_at r number regs view fuel =
 -- What is kept can replace the thunk of these registers on this view: writing its stored bytes into a memory is
 -- applying the thunk's stores to it; registers, end and count are the thunk's; and so are the bytes of its put.
 pub record StandsFor (f : Frame) (view memory : Memory) (start : Registers) (k : Kept) : Type 0 where
-  pub memory_is : masked memory k.delta ≡ laid f.map memory (thunk f view start).stores
+  pub memory_is : masked memory k.delta ≡ with_stores f.map memory (thunk f view start).stores
   pub finish_is : k.finish ≡ (thunk f view start).regs
   pub end_is : k.end ≡ (thunk f view start).end
   pub count_is : k.count ≡ (thunk f view start).count

@@ -2,7 +2,7 @@
 use Rattle.std.specs.Prelude.{ℕ, zero, suc, List, [], ◌++◌}
 use Rattle.isa_spec.specs.Registers.{Registers}
 use Rattle.memory_spec.specs.Pages.{Mapped, Memory}
-use Rattle.memory_spec.specs.Stores.{StoredByte, laid}
+use Rattle.memory_spec.specs.Stores.{StoredByte, with_stores}
 use Rattle.thunk_spec.specs.declared.ends.Outcome.{Outcome}
 use Rattle.thunk_spec.specs.declared.ends.Outcome.TheVariants as outcome
 use Rattle.thunk_spec.specs.declared.ends.ThunkEnd.{ThunkEnd}
@@ -42,7 +42,7 @@ after_turn t rest =
 -- A turn with this outcome and, if the next turn follows, the rest of the thunk, from the turn's registers on and with
 -- its stores applied.
 abbrev pub followed : Outcome → List Mapped → Memory → Turn → (Memory → Registers → Thunk) → Thunk
-followed outcome.Next map memory t rest = after_turn t (rest (laid map memory t.stores) t.regs)
+followed outcome.Next map memory t rest = after_turn t (rest (with_stores map memory t.stores) t.regs)
 followed outcome.Call map memory t rest = last_turn thunk_end.Call t
 followed (outcome.Trap cause) map memory t rest = last_turn (thunk_end.Trap cause) t
 
@@ -56,7 +56,7 @@ abbrev pub with_put : List Mapped → Memory → Thunk → Thunk
 with_put map view t =
     record t {
       taken = t.taken ++ put_addresses map t.end t.regs;
-      put = bytes_at map (laid map view t.stores) (put_addresses map t.end t.regs);
+      put = bytes_at map (with_stores map view t.stores) (put_addresses map t.end t.regs);
     }
 
 -- The thunk of these registers on this view.

@@ -7,7 +7,7 @@
 ghost use Rattle.std.specs.Prelude.{◌≡◌, List, ℕ, true};
 ghost use Rattle.isa_spec.specs.Registers.{Registers};
 ghost use Rattle.memory_spec.specs.Pages.{Mapped, Memory, IsMemory};
-ghost use Rattle.memory_spec.specs.Stores.{StoredByte, laid};
+ghost use Rattle.memory_spec.specs.Stores.{StoredByte, with_stores};
 ghost use Rattle.thunk_spec.specs.Turn.{turn};
 ghost use Rattle.thunk_spec.specs.Thunk.{Frame, thunk};
 ghost use Rattle.thunk_spec.specs.Locality.{Agree};
@@ -35,10 +35,10 @@ pub fn thunk_is_local()
 {}
 
 /// Writing the delta of stores, their last bytes at their places, is applying the stores in order.
-pub fn delta_is_laid()
+pub fn delta_is_the_stores()
     ensures { (map : List Mapped) (memory : Memory) (stores : List StoredByte)
         → IsMemory map memory
-        → masked memory (delta_of map stores) ≡ laid map memory stores }
+        → masked memory (delta_of map stores) ≡ with_stores map memory stores }
 {}
 
 /// What is kept of a thunk is true: on every view that has its read pages the thunk is the same.

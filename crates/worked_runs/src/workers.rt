@@ -69,8 +69,8 @@ fn total(worker_steps: &[u64]) -> u64 {
 
 /// Whether a report has twelve steps and two workers, each of which made at least one.
 fn is_shared(alloc: Global, report: &[u8]) -> Result<bool, AllocError> {
-    let told = worker_steps(alloc, report)?;
-    Ok(told.len() == 2 && !told.contains(&0) && total(&told) == 12)
+    let reported = worker_steps(alloc, report)?;
+    Ok(reported.len() == 2 && !reported.contains(&0) && total(&reported) == 12)
 }
 
 #[test]

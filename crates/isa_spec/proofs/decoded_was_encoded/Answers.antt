@@ -1,5 +1,5 @@
 -- The law is a lemma.
-use Rattle.isa_spec.proofs.Spelling.{decoded-spells}
+use Rattle.isa_spec.proofs.WordOf.{decoded-spells}
 use Rattle.isa_spec.proofs.decoded_was_encoded.Goals as goal
 
 pub returns : goal.returns

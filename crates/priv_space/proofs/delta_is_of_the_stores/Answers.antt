@@ -1,6 +1,6 @@
 -- Answers to the goals that the check leaves of `delta_is_of_the_stores`.
-use Rattle.priv_space.proofs.Collecting.{delta_from-laid}
+use Rattle.priv_space.proofs.Collecting.{delta_from-with_stores}
 use Rattle.priv_space.proofs.delta_is_of_the_stores.Goals as goal
 
 pub returns : goal.returns
-returns c = delta_from-laid
+returns c = delta_from-with_stores

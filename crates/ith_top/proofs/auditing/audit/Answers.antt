@@ -8,7 +8,7 @@ use Rattle.ith_top.specs.Ends.{HasVerdict, Prints, IsAudited, AuditEnds, audit_o
 use Rattle.ith_top.specs.Refusals.{WhyUnprinted}
 use Rattle.ith_top.proofs.Going.{prints_then}
 use Rattle.ith_top.proofs.Ending.{cut_ends}
-use Rattle.ith_top.proofs.OneText.{told, untold, has_verdict}
+use Rattle.ith_top.proofs.OneText.{reported, unstated, has_verdict}
 use Rattle.ith_top.proofs.auditing.audit.Goals as goal
 
 pub returns-in_err-history : goal.returns-in_err-history
@@ -33,7 +33,7 @@ returns-in_err-print_text g c =
     let why : WhyUnprinted (audit_of h place) b d c.in_err-print_text.field-0.0 = rw (← text) c.in_err-print_text.ensures.refused in
     let p = err_from_is_err_and c.from_residual-in_err-print_text.result c.from_residual-in_err-print_text.ensures.1 in
     rw (p.1, p.2)
-    (untold (Audits line) ((o : Option ℕ) × HasVerdict line.memo o a) (λ has. audit_of has.1.history has.0)
+    (unstated (Audits line) ((o : Option ℕ) × HasVerdict line.memo o a) (λ has. audit_of has.1.history has.0)
     (place, has_verdict line.memo place a h c.in_ok-history.ensures.history c.in_ok-verdict.ensures.verdict)
     (λ s. AuditEnds line a d s) a b d c.in_err-print_text.field-0.0
     c.in_ok-history.ensures.reads c.print_text.ensures.asked (λ part. part) why)
@@ -47,7 +47,7 @@ returns-in-None g c =
     let prints : Prints b d (audit_of h place) = rw (← text) c.in_ok-print_text.ensures.printed in
     inr
     (subst (λ (o : Option ℕ). IsAudited line o a d) c.in-None.is
-    (told (Audits line) (HasVerdict line.memo place a) (λ has. audit_of has.history place)
+    (reported (Audits line) (HasVerdict line.memo place a) (λ has. audit_of has.history place)
     (has_verdict line.memo place a h c.in_ok-history.ensures.history c.in_ok-verdict.ensures.verdict)
     a b d c.in_ok-history.ensures.reads c.print_text.ensures.asked prints))
 
@@ -61,7 +61,7 @@ returns g c =
     inr (
       c.in-Some.place,
       subst (λ (o : Option ℕ). IsAudited line o a e) c.in-Some.is
-          (told (Audits line) (HasVerdict line.memo place a) (λ has. audit_of has.history place)
+          (reported (Audits line) (HasVerdict line.memo place a) (λ has. audit_of has.history place)
           (has_verdict line.memo place a h c.in_ok-history.ensures.history c.in_ok-verdict.ensures.verdict)
           a b e c.in_ok-history.ensures.reads (c.complain.ensures.asked ∙ c.print_text.ensures.asked)
           (prints_then b d e (audit_of h place) prints c.complain.ensures.stays)),

@@ -4,7 +4,7 @@ use Rattle.rerun_spec.specs.Inputs.{AreShort}
 use Rattle.rerun_spec.specs.Rounds.{Beginning}
 use Rattle.ith_top.specs.Contents.{Plan}
 use Rattle.ith_top.specs.Playing.{beginning_said, plan_said}
-use Rattle.ith_top.specs.declared.report.Telling.TheVariants as telling
+use Rattle.ith_top.specs.declared.report.Form.TheVariants as form
 use Rattle.ith_top.proofs.Going.{short_first, short_rest}
 use Rattle.ith_top.proofs.Making.{left_map}
 use Rattle.ith_top.proofs.Generated.{both_generated}
@@ -23,7 +23,7 @@ make_round-requires-2-clause-short g c = λ lifetimes bounds.
 
 pub make_round-requires-2-clause-same : goal.make_round-requires-2-clause-same
 make_round-requires-2-clause-same g c = λ lifetimes bounds.
-    left_map c.args.crew.now.workers telling.Line (beginning_said c.in_ok-beginning.field-0.beginning)
+    left_map c.args.crew.now.workers form.Line (beginning_said c.in_ok-beginning.field-0.beginning)
     c.in_ok-input.input.items c.args.crew.now.work.turns c.make_round.new.crew.work.turns
     c.in_ok-first.first.text.items c.in_ok-first.first.exited (beginning_said c.in_ok-first.first.next)
     c.in_ok-first.ensures.played

@@ -10,7 +10,7 @@ use Rattle.ith_top.specs.Statuses.{status_in}
 use Rattle.ith_top.specs.Files.{files_named}
 use Rattle.ith_top.specs.Counting.{ReplaySpends}
 use Rattle.ith_top.specs.Refusals.{WhyUnreplayed, WhyUnprinted}
-use Rattle.ith_top.specs.Playing.{TellsOfReplay}
+use Rattle.ith_top.specs.Playing.{ReportsReplay}
 use Rattle.ith_top.proofs.Worlds.{reads_then}
 use Rattle.ith_top.proofs.Ending.{cut_ends}
 use Rattle.ith_top.proofs.Replayed.{replay_endless, replay_spent, replay_ends, replay_unprinted}
@@ -69,7 +69,7 @@ returns-in_err-print_text-clause-ends g c =
     let setup = c.in_ok-setup.setup in let said = c.in_ok-setup.schedule.items in
     let threads = c.in_ok-threads.threads.items in let o : Outcome = c.in_ok-threads.outcome in
     let says : Says said (Ok threads) = rw (← c.as_slice.ensures.value) c.in_ok-threads.ensures.threads in
-    let tells : TellsOfReplay threads o c.in_ok-text.text.items =
+    let tells : ReportsReplay threads o c.in_ok-text.text.items =
     rw (← c.as_slice-2.ensures.value) c.in_ok-text.ensures in
     let why : WhyUnprinted c.in_ok-text.text.items d e c.in_err-print_text.field-0.0 =
     rw (← c.as_slice-3.ensures.value) c.in_err-print_text.ensures.refused in
@@ -94,7 +94,7 @@ returns-clause-ends g c =
     let setup = c.in_ok-setup.setup in let said = c.in_ok-setup.schedule.items in
     let threads = c.in_ok-threads.threads.items in let o : Outcome = c.in_ok-threads.outcome in
     let says : Says said (Ok threads) = rw (← c.as_slice.ensures.value) c.in_ok-threads.ensures.threads in
-    let tells : TellsOfReplay threads o c.in_ok-text.text.items =
+    let tells : ReportsReplay threads o c.in_ok-text.text.items =
     rw (← c.as_slice-2.ensures.value) c.in_ok-text.ensures in
     let spent : ReplaySpends line a e c.args.turns.now c.outcome_of.new.turns (status_in (Ok c.is_exit.result)) =
     replay_spent line a b d e setup said threads c.in_ok-text.text.items o c.is_exit.result c.args.turns.now
@@ -111,7 +111,7 @@ returns-clause-cost g c =
     let setup = c.in_ok-setup.setup in let said = c.in_ok-setup.schedule.items in
     let threads = c.in_ok-threads.threads.items in let o : Outcome = c.in_ok-threads.outcome in
     let says : Says said (Ok threads) = rw (← c.as_slice.ensures.value) c.in_ok-threads.ensures.threads in
-    let tells : TellsOfReplay threads o c.in_ok-text.text.items =
+    let tells : ReportsReplay threads o c.in_ok-text.text.items =
     rw (← c.as_slice-2.ensures.value) c.in_ok-text.ensures in
     let spent : ReplaySpends line a e c.args.turns.now c.outcome_of.new.turns (status_in (Ok c.is_exit.result)) =
     replay_spent line a b d e setup said threads c.in_ok-text.text.items o c.is_exit.result c.args.turns.now

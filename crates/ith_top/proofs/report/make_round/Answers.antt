@@ -37,7 +37,7 @@ returns-clause-played g c =
       progress = made.progress.items;
       turns = cost.0;
     } in
-    made_on c.args.crew.now.workers c.args.telling begins c.args.input.items w f
+    made_on c.args.crew.now.workers c.args.form begins c.args.input.items w f
     c.args.crew.now.work.turns c.make.new.self.work.turns c.in_ok-text.text.items c.is_exit-exited.result _
     setup c.in_ok-made.ensures.past c.in_ok-made.ensures.stands refl is
     (λ yes. c.in_ok-made.ensures.watched yes) cost.2 cost.1

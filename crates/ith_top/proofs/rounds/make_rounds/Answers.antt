@@ -6,7 +6,7 @@ use Rattle.std.specs.Arc.{arc_value}
 use Rattle.rerun_spec.specs.Inputs.{AreShort}
 use Rattle.rerun_spec.specs.Rounds.{Beginning}
 use Rattle.ith_top.specs.Playing.{beginning_said}
-use Rattle.ith_top.specs.declared.report.Telling.TheVariants as telling
+use Rattle.ith_top.specs.declared.report.Form.TheVariants as form
 use Rattle.ith_top.proofs.Worlds.{none_fell_same}
 use Rattle.ith_top.proofs.Making.{left_map}
 use Rattle.ith_top.proofs.Going.{going_start, going_next, going_played, going_cut, going_unprinted, none_left, short_first, short_rest}
@@ -108,7 +108,7 @@ loop-place-preserved g c =
       short = short_rest c.in_ok-input.input.items c.take_input.new.inputs (subst AreShort taken c.loop-place.invariant.short);
       few = let number : next.number ≡ now.number + 1 = ap (λ (b : Beginning). b.number) is_next in
           let few = c.loop-place.invariant.few in omega arith;
-      map = left_map c.loop-place.crew.workers telling.Report now c.in_ok-input.input.items
+      map = left_map c.loop-place.crew.workers form.Report now c.in_ok-input.input.items
           c.loop-place.crew.work.turns c.make_round.new.crew.work.turns c.in_ok-text.field-0.text.items
           c.in_ok-text.field-0.exited next c.in_ok-text.ensures.played;
       some = λ none. absurd (let no = ap (λ (b : Beginning). b.past) is_next in cc);

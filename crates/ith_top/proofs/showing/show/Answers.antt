@@ -8,7 +8,7 @@ use Rattle.ith_top.specs.Files.{files_named}
 use Rattle.ith_top.specs.Ends.{HasHistory, Prints, ShowEnds}
 use Rattle.ith_top.specs.Refusals.{WhyUnprinted}
 use Rattle.ith_top.proofs.Ending.{cut_ends}
-use Rattle.ith_top.proofs.OneText.{has_history, told, untold}
+use Rattle.ith_top.proofs.OneText.{has_history, reported, unstated}
 use Rattle.ith_top.proofs.showing.show.Goals as goal
 
 pub returns-in_err-history : goal.returns-in_err-history
@@ -34,7 +34,7 @@ returns-in_err-print_text g c =
     rw (← text) c.in_err-print_text.ensures.refused in
     let p = err_from_is_err_and c.from_residual-in_err-print_text.result c.from_residual-in_err-print_text.ensures.1 in
     rw (p.1, p.2)
-    (untold line (HasHistory name a) (λ has. listing has.history) (has_history name a h c.in_ok-history.ensures.history)
+    (unstated line (HasHistory name a) (λ has. listing has.history) (has_history name a h c.in_ok-history.ensures.history)
     (λ s. ShowEnds (show_said c.args.line.now) a (w c.print_text.new.host) s) a b (w c.print_text.new.host) c.in_err-print_text.field-0.0
     c.in_ok-history.ensures.reads c.print_text.ensures.asked (λ part. part) why)
 
@@ -46,5 +46,5 @@ returns g c =
     let text : c.as_slice.result.now ≡ listing h = c.as_slice.ensures.value ∙ c.in_ok-text.ensures in
     let prints : Prints b (w c.print_text.new.host) (listing h) = rw (← text) c.in_ok-print_text.ensures.printed in
     inr
-    (told line (HasHistory name a) (λ has. listing has.history) (has_history name a h c.in_ok-history.ensures.history)
+    (reported line (HasHistory name a) (λ has. listing has.history) (has_history name a h c.in_ok-history.ensures.history)
     a b (w c.print_text.new.host) c.in_ok-history.ensures.reads c.print_text.ensures.asked prints)

@@ -2,7 +2,7 @@
 use Rattle.std.proofs.Common.{◌≡◌, ◌%◌, ◌<◌, ℕ, length, set, ap, sym, ◌∙◌, arith}
 use Rattle.memory_spec.specs.Pages.{slot_of, page_of}
 use Rattle.plain_machine.specs.Stored.{with_number}
-use Rattle.plain_machine.proofs.Placing.{laid_in_page, laid_nowhere}
+use Rattle.plain_machine.proofs.Placing.{with_stores_in_page, with_stores_nowhere}
 use Rattle.plain_machine.proofs.stores.lay.Goals as goal
 
 pub returns-in_ok-write-clause-ok : goal.returns-in_ok-write-clause-ok
@@ -17,11 +17,11 @@ returns-in_ok-write-clause-ok c =
     ∙ ap (λ (o : ℕ). set m c.in-Some.slot (with_number (page_of m c.in-Some.slot) o s.size s.value))
     c.offset_of-offset.ensures
     ∙ ap (λ (k : ℕ). set m k (with_number (page_of m k) (s.address % 4096) s.size s.value)) slot
-    ∙ sym (laid_in_page map m s.address s.size s.value c.stored.invariant mapped))
+    ∙ sym (with_stores_in_page map m s.address s.size s.value c.stored.invariant mapped))
 
 pub returns-in_default-clause-ok : goal.returns-in_default-clause-ok
 returns-in_default-clause-ok c =
     let s = c.stored.inside in
     rw (← c.stored.view_is)
-    (sym (laid_nowhere c.args.map.now c.args.memory.now s.address s.size s.value c.stored.invariant
+    (sym (with_stores_nowhere c.args.map.now c.args.memory.now s.address s.size s.value c.stored.invariant
     (omega (arith, c.in_default.ensures.missing, c.requires))))

@@ -1,11 +1,11 @@
 -- What holds at the loop of `lay_all`.
 use Rattle.std.proofs.Common.{◌≡◌, drop, length}
-use Rattle.memory_spec.specs.Stores.{laid}
+use Rattle.memory_spec.specs.Stores.{with_stores}
 use Rattle.plain_machine.specs.Stored.{bytes_of}
 use Rattle.plain_machine.proofs.stores.lay_all.Given as goal
 
 -- what the rest of the stores leaves is what they all leave
 abbrev pub invariant-loop-stored : goal.invariant-loop-stored
 invariant-loop-stored l =
-    (laid l.map l.memory (bytes_of (drop l.stored-index l.stores)) ≡ laid l.map l.fn.memory (bytes_of l.stores))
+    (with_stores l.map l.memory (bytes_of (drop l.stored-index l.stores)) ≡ with_stores l.map l.fn.memory (bytes_of l.stores))
     × (length l.memory ≡ length l.map)

@@ -46,7 +46,7 @@ appended a b c is is1 is2 is3 =
 
 pub returns : goal.returns
 returns c =
-    let t = c.args.told.now in
+    let t = c.args.reported.now in
     appended (codes "replay" ++ newline) (run_part t) (outcome_part t)
     c.new-text.ensures.items c.in_ok-extend_from_slice.ensures.items c.in_ok-append_run.ensures
     c.in_ok-append_outcome.ensures

@@ -64,7 +64,7 @@ appended a b c d e e1 e2 e3 e4 =
 
 pub returns : goal.returns
 returns c =
-    let t = c.args.told.now in
+    let t = c.args.reported.now in
     appended (line (codes "round") (decimal c.args.number)) (steps_part t) (work_part t) (outcome_part t)
     c.new-text.ensures.items c.in_ok-number_line.ensures c.in_ok-append_steps.ensures c.in_ok-append_work.ensures
     c.in_ok-append_outcome.ensures

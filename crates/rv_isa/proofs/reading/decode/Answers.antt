@@ -1,7 +1,7 @@
 use Rattle.std.proofs.Common.{IfSome, Option, sym, subst}
 use Rattle.isa_spec.specs.declared.Instr.{Instr}
 use Rattle.isa_spec.specs.Encoding.{InRange}
-use Rattle.isa_spec.proofs.Spelling.{decoded_in_range}
+use Rattle.isa_spec.proofs.WordOf.{decoded_in_range}
 use Rattle.rv_isa.proofs.reading.decode.Goals as goal
 
 -- what the word decodes to has its operands in range

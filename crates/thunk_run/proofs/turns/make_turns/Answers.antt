@@ -4,21 +4,21 @@ use Rattle.thunk_run.proofs.Leaving.{turns-next, turns-call, turns-trap}
 use Rattle.thunk_run.proofs.Entering.{turn-view, left-more}
 use Rattle.thunk_run.specs.TurnsOutcome.{left_after}
 use Rattle.thunk_run.proofs.turns.make_turns.Goals as goal
-use Rattle.thunk_run.proofs.turns.make_turns.Goals.{then-count-ge-LONG_TURNS+then-not-told, else-count-ge-LONG_TURNS}
-use Rattle.thunk_run.proofs.turns.make_turns.Goals.{else-count-ge-LONG_TURNS-via-then-count-ge-LONG_TURNS+else-not-told}
+use Rattle.thunk_run.proofs.turns.make_turns.Goals.{then-count-ge-LONG_TURNS+then-not-reported, else-count-ge-LONG_TURNS}
+use Rattle.thunk_run.proofs.turns.make_turns.Goals.{else-count-ge-LONG_TURNS-via-then-count-ge-LONG_TURNS+else-not-reported}
 use Rattle.thunk_run.proofs.turns.make_turns.Goals.{else-count-ge-LONG_TURNS-via-else-count-ge-LONG_TURNS}
 
 -- there is room for one turn more, where the watch was told or there were few
 one-more :
-    (told : Bool) (made before until fuel : ℕ)
+    (reported : Bool) (made before until fuel : ℕ)
     → made < fuel → until ≡ before → before ≤ fuel
-    → (before ≡ fuel) ⊎ ((told ≡ false) × (3072 ≤ before))
-    → (told ≡ true) ⊎ (made < 2048)
+    → (before ≡ fuel) ⊎ ((reported ≡ false) × (3072 ≤ before))
+    → (reported ≡ true) ⊎ (made < 2048)
     → (made + 1 ≤ until) × (until ≤ fuel)
-one-more told made before until fuel few same most (inl all) seldom = (omega arith, omega arith)
-one-more told made before until fuel few same most (inr far) (inl long) =
+one-more reported made before until fuel few same most (inl all) seldom = (omega arith, omega arith)
+one-more reported made before until fuel few same most (inr far) (inl long) =
     let both : false ≡ true = sym far.0 ∙ long in cc
-one-more told made before until fuel few same most (inr far) (inr short) = (omega arith, omega arith)
+one-more reported made before until fuel few same most (inr far) (inr short) = (omega arith, omega arith)
 
 pub loop-count-preserved : goal.loop-count-preserved
 loop-count-preserved g c =
@@ -32,19 +32,19 @@ loop-count-preserved g c =
       few = omega arith;
       room =
           elim c.if-count-ge-LONG_TURNS.branch [
-            | then-count-ge-LONG_TURNS+then-not-told w ↦ (omega arith, omega arith)
+            | then-count-ge-LONG_TURNS+then-not-reported w ↦ (omega arith, omega arith)
             | else-count-ge-LONG_TURNS w ↦
-                one-more c.loop-count.told made c.loop-count.until c.if-count-ge-LONG_TURNS.until fuel few w.until-is
+                one-more c.loop-count.reported made c.loop-count.until c.if-count-ge-LONG_TURNS.until fuel few w.until-is
                 c.loop-count.invariant.room.1 c.loop-count.invariant.until
                 (elim w.else-count-ge-LONG_TURNS.branch [
-                  | else-count-ge-LONG_TURNS-via-then-count-ge-LONG_TURNS+else-not-told v ↦ inl v.if-not-told.false
+                  | else-count-ge-LONG_TURNS-via-then-count-ge-LONG_TURNS+else-not-reported v ↦ inl v.if-not-reported.false
                   | else-count-ge-LONG_TURNS-via-else-count-ge-LONG_TURNS v ↦ inr v.if-count-ge-LONG_TURNS.false
                 ])
           ];
       until =
           elim c.if-count-ge-LONG_TURNS.branch [
-            | then-count-ge-LONG_TURNS+then-not-told w ↦ inl w.until-is
-            | else-count-ge-LONG_TURNS w ↦ rw (w.until-is, w.told-is) c.loop-count.invariant.until
+            | then-count-ge-LONG_TURNS+then-not-reported w ↦ inl w.until-is
+            | else-count-ge-LONG_TURNS w ↦ rw (w.until-is, w.reported-is) c.loop-count.invariant.until
           ];
       counter = omega (arith, c.in_ok-count.ensures.cost, c.step.ensures.count);
       seen = λ slot page same at.

@@ -8,7 +8,7 @@ abbrev pub invariant-loop-count : goal.invariant-loop-count
 invariant-loop-count g l = record {
   few : l.count ≤ l.fuel;
   room : (l.count ≤ l.until) × (l.until ≤ l.fuel);
-  until : (l.until ≡ l.fuel) ⊎ ((l.told ≡ false) × (3072 ≤ l.until));
+  until : (l.until ≡ l.fuel) ⊎ ((l.reported ≡ false) × (3072 ≤ l.until));
   counter : l.turns ≡ l.fn.turns + l.count;
   seen : AreSeen l.code (g.M.Mem.workspace l.mem).view l.seen;
   left : counted l.count (left_after (l.fuel - l.count) (g.M.Mem.workspace l.mem) l.regs)

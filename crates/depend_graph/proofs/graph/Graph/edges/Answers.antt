@@ -27,17 +27,17 @@ filter-more test n b is =
 pub loop-j-preserved : goal.loop-j-preserved
 loop-j-preserved c =
     let list = c.deref.ensures.value ∙ c.self.view_is in
-    let told : before_at c.args.self.now c.loop-j.j c.args.i ≡ c.is_before.result =
+    let reported : before_at c.args.self.now c.loop-j.j c.args.i ≡ c.is_before.result =
     ap (λ fs. before_at fs c.loop-j.j c.args.i) (sym list) ∙ sym c.is_before.ensures in
     elim c.if-is_before.branch [
       | then-is_before+in_ok-push w ↦
           let more =
-          filter-more (λ j. before_at c.args.self.now j c.args.i) c.loop-j.j true (told ∙ w.if-is_before.true) in
+          filter-more (λ j. before_at c.args.self.now j c.args.i) c.loop-j.j true (reported ∙ w.if-is_before.true) in
           rw w.places-is
           (w.in_ok-push.ensures.items ∙ ap (λ xs. xs ++ c.loop-j.j ∷ []) c.loop-j.invariant ∙ sym more)
       | else-is_before w ↦
           let more =
-          filter-more (λ j. before_at c.args.self.now j c.args.i) c.loop-j.j false (told ∙ w.if-is_before.false) in
+          filter-more (λ j. before_at c.args.self.now j c.args.i) c.loop-j.j false (reported ∙ w.if-is_before.false) in
           rw w.places-is
           (c.loop-j.invariant
           ∙ sym (append-nil (filter (λ j. before_at c.args.self.now j c.args.i) (range_with_len 0 c.loop-j.j)))

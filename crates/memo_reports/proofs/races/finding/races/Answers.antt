@@ -16,7 +16,7 @@ use Rattle.memo_reports.proofs.Facts.{fact-count}
 use Rattle.memo_reports.proofs.Tally.{bit, tally-few}
 use Rattle.memo_reports.proofs.Bounds.{few-pages, races-summed, whole-races}
 use Rattle.memo_reports.proofs.Between.{so_far}
-use Rattle.memo_reports.proofs.Earlier.{racing-counted, row-told, none-misplaced, past-few, past-next, past-none}
+use Rattle.memo_reports.proofs.Earlier.{racing-counted, row-reported, none-misplaced, past-few, past-next, past-none}
 use Rattle.memo_reports.proofs.Adding as adding
 use Rattle.memo_reports.proofs.races.finding.races.Goals as goal
 
@@ -307,7 +307,7 @@ loop-touch-preserved c =
           (get_or c.add.new.self.rows.items i []) (flat_map (races_between fs reads pages i) (range_with_len 0 j))
           (races_in i j t (filter (races_with s t.writes) (accesses_of page))) c.loop-touch-test.true
           (get_or_default c.deref-touch-items.result.now m none t c.loop-touch-test.true) (inv.rows i there)
-          (c.in_ok-total.ensures.rows i there) (row-told fs reads pages j s is known t m page touched has i (omega arith)));
+          (c.in_ok-total.ensures.rows i there) (row-reported fs reads pages j s is known t m page touched has i (omega arith)));
       counted = c.in_ok-total.ensures.counted;
       enough = (elim inv.enough [
         | inl all ↦ inl (c.in_ok-total.ensures.long ∙ all)

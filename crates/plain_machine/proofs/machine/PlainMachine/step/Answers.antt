@@ -5,7 +5,7 @@ use Rattle.std.proofs.lemmas.Grind.{common_steps}
 use Rattle.std.specs.Arc.{arc_value}
 use Rattle.isa_spec.specs.Registers.{Registers}
 use Rattle.memory_spec.specs.Pages.{Mapped, Memory, IsMemory}
-use Rattle.memory_spec.specs.Stores.{laid}
+use Rattle.memory_spec.specs.Stores.{with_stores}
 use Rattle.machine_spec.specs.declared.states.Asked.{Asked}
 use Rattle.machine_spec.specs.Machine.{Machine, Hart, hart_in}
 use Rattle.machine_spec.specs.Step as step
@@ -17,7 +17,7 @@ use Rattle.plain_machine.specs.Stored.{bytes_of}
 use Rattle.plain_machine.specs.Turning.{IsDone}
 use Rattle.machine_calls.specs.Doing.{harts_after, objects_after, own_end, effect_made}
 use Rattle.plain_machine.specs.Making.{IsMade, asked_by}
-use Rattle.plain_machine.proofs.Stepping.{stepped, told}
+use Rattle.plain_machine.proofs.Stepping.{stepped, reported}
 use Rattle.plain_machine.proofs.machine.PlainMachine.step.Goals as goal
 
 pub run-requires : goal.run-requires
@@ -73,10 +73,10 @@ invariant_of-machine c =
     (subst (λ (v : Memory). IsDone m.frame v c.regs.result.now c.in_ok-done.done) view_is c.in_ok-done.ensures.done) in
     let stores = bytes_of c.in_ok-done.done.stores.items in
     let asks : Asked = asked_by c.args.t c.in_ok-done.done in
-    let is_memory : c.lay_all.new.memory ≡ laid map c.self.inside.memory stores =
+    let is_memory : c.lay_all.new.memory ≡ with_stores map c.self.inside.memory stores =
     c.in_ok-lay_all.ensures
-    ∙ ap (λ (p : List Mapped). laid p c.self.inside.memory (bytes_of c.as_slice.result.now)) c.deref.ensures
-    ∙ ap (λ x. laid map c.self.inside.memory (bytes_of x)) c.as_slice.ensures.value in
+    ∙ ap (λ (p : List Mapped). with_stores p c.self.inside.memory (bytes_of c.as_slice.result.now)) c.deref.ensures
+    ∙ ap (λ x. with_stores map c.self.inside.memory (bytes_of x)) c.as_slice.ensures.value in
     let is_output : c.extend_from_slice.new.self.items ≡ c.self.inside.output.items ++ c.in_ok-done.done.put.items =
     grind (arith, common_steps, c.in_ok-extend_from_slice.ensures.items, c.as_slice-2.ensures.value) in
     let is_harts : c.finish.new.harts.items ≡ harts_after map c.self.inside.objects c.lay_all.new.memory c.args.t
@@ -126,10 +126,10 @@ returns-clause-machine c =
     (subst (λ (v : Memory). IsDone m.frame v c.regs.result.now c.in_ok-done.done) view_is c.in_ok-done.ensures.done) in
     let stores = bytes_of c.in_ok-done.done.stores.items in
     let asks : Asked = asked_by c.args.t c.in_ok-done.done in
-    let is_memory : c.lay_all.new.memory ≡ laid map c.self.inside.memory stores =
+    let is_memory : c.lay_all.new.memory ≡ with_stores map c.self.inside.memory stores =
     c.in_ok-lay_all.ensures
-    ∙ ap (λ (p : List Mapped). laid p c.self.inside.memory (bytes_of c.as_slice.result.now)) c.deref.ensures
-    ∙ ap (λ x. laid map c.self.inside.memory (bytes_of x)) c.as_slice.ensures.value in
+    ∙ ap (λ (p : List Mapped). with_stores p c.self.inside.memory (bytes_of c.as_slice.result.now)) c.deref.ensures
+    ∙ ap (λ x. with_stores map c.self.inside.memory (bytes_of x)) c.as_slice.ensures.value in
     let is_output : c.extend_from_slice.new.self.items ≡ c.self.inside.output.items ++ c.in_ok-done.done.put.items =
     grind (arith, common_steps, c.in_ok-extend_from_slice.ensures.items, c.as_slice-2.ensures.value) in
     let is_harts : c.finish.new.harts.items ≡ harts_after map c.self.inside.objects c.lay_all.new.memory c.args.t
@@ -178,7 +178,7 @@ returns-clause-made c =
     (subst (λ (v : Memory). IsDone m.frame v c.regs.result.now c.in_ok-done.done) view_is c.in_ok-done.ensures.done) in
     let asks : c.in_ok-made.made.asked ≡ asked_by c.args.t c.in_ok-done.done = c.in_ok-made.ensures.asks in
     subst (λ (x : Machine). IsMade x c.args.t c.in_ok-made.made) c.self.view_is
-    (told m c.args.t c.in_ok-done.done c.in_ok-made.made is_done c.in_ok-made.ensures.count asks
+    (reported m c.args.t c.in_ok-done.done c.in_ok-made.made is_done c.in_ok-made.ensures.count asks
     (c.in_ok-made.ensures.effect
     ∙ ap (λ (p : List Mapped). effect_made p c.self.inside.objects c.args.t (asked_by c.args.t c.in_ok-done.done))
     c.deref-2.ensures

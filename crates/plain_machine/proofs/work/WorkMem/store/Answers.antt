@@ -3,9 +3,9 @@ use Rattle.std.proofs.Common.{◌≡◌, ◌++◌, [], ◌∷◌, length, refl, 
 use Rattle.std.specs.Arc.{arc_value}
 use Rattle.memory_spec.specs.Pages.{allows, write_right, permission_at}
 use Rattle.memory_spec.specs.Access.{bytes_stored, may_store}
-use Rattle.memory_spec.specs.Stores.{laid}
+use Rattle.memory_spec.specs.Stores.{with_stores}
 use Rattle.plain_machine.specs.Stored.{StoredNumber}
-use Rattle.plain_machine.proofs.Laying.{laid_count}
+use Rattle.plain_machine.proofs.Laying.{with_stores_count}
 use Rattle.plain_machine.proofs.Merging.{kept-more, marked-more}
 use Rattle.plain_machine.proofs.work.WorkMem.store.Goals as goal
 
@@ -19,20 +19,20 @@ listed c = c.in-Ok.ensures.items ∙ ap (λ (s : StoredNumber). c.self.inside.st
 -- and laid on the memory
 pages :
     (c : goal.In-Ok-lay)
-    → c.lay.new.memory ≡ laid (arc_value c.self.inside.map) c.self.inside.memory
+    → c.lay.new.memory ≡ with_stores (arc_value c.self.inside.map) c.self.inside.memory
     (bytes_stored c.args.address c.args.size c.args.value)
 pages c =
     c.in-Ok-lay.ensures.ok
-    ∙ ap (λ map. laid map c.self.inside.memory
+    ∙ ap (λ map. with_stores map c.self.inside.memory
     (bytes_stored c.new-stored.result.address c.new-stored.result.size c.new-stored.result.value)) c.deref-in-Some.ensures
-    ∙ ap (λ (s : StoredNumber). laid (arc_value c.self.inside.map) c.self.inside.memory
+    ∙ ap (λ (s : StoredNumber). with_stores (arc_value c.self.inside.map) c.self.inside.memory
     (bytes_stored s.address s.size s.value)) c.new-stored.ensures
 
 pub invariant_of-self-in-Ok-lay : goal.invariant_of-self-in-Ok-lay
 invariant_of-self-in-Ok-lay c =
     record {
       count = ap length (pages c)
-          ∙ laid_count (arc_value c.self.inside.map) c.self.inside.memory
+          ∙ with_stores_count (arc_value c.self.inside.map) c.self.inside.memory
           (bytes_stored c.args.address c.args.size c.args.value)
           ∙ c.self.invariant.count;
       lays = λ shared whole.

@@ -4,10 +4,10 @@ use Rattle.machine_spec.specs.Machine.{hart_of}
 use Rattle.round_spec.specs.Marks.{record_for}
 use Rattle.round_report.specs.Differences.{cause_of}
 use Rattle.round_report.specs.Storing.{last_store}
-use Rattle.round_report.specs.Reasons.{made_before, told_of_step, is_executed}
+use Rattle.round_report.specs.Reasons.{made_before, reason_of_step, is_executed}
 use Rattle.memo_reports.specs.Listing.{addresses_of}
 use Rattle.round_report.proofs.Finding.{none_gives}
-use Rattle.round_report.proofs.Steps.{known, no-reason, reason-is, told-of, unfit-known}
+use Rattle.round_report.proofs.Steps.{known, no-reason, reason-is, reported-of, unfit-known}
 use Rattle.round_report.proofs.why.walking.reason_at.Goals as goal
 
 pub returns-then-entry-clause-reason : goal.returns-then-entry-clause-reason
@@ -91,7 +91,7 @@ returns-in_default-clause-reason c =
     sym (reason-is c.args.round.now c.args.core.now c.args.since.now c.args.step (addresses_of c.args.round.now.setup) _ c.cause_at.result k c.requires.before
     refl c.if-entry.false
     (c.cause_at.ensures.cause
-    ∙ ap (λ (n : ℕ). cause_of (addresses_of c.args.round.now.setup) (last_store c.args.round.now.records n) (hart_of c.args.core.now (slice_index_or c.schedule.result.now c.args.step (record { thread = 0; reused = false })).thread) (record_for c.args.round.now.past c.args.core.now (slice_index_or c.schedule.result.now c.args.step (record { thread = 0; reused = false })).thread)) (ap (λ (t : ℕ). slice_index c.args.since.now t) c.from.ensures)) ∙ ap (option_map (told_of_step (made_before c.args.round.now) c.args.step _)) c.in_default.is)
+    ∙ ap (λ (n : ℕ). cause_of (addresses_of c.args.round.now.setup) (last_store c.args.round.now.records n) (hart_of c.args.core.now (slice_index_or c.schedule.result.now c.args.step (record { thread = 0; reused = false })).thread) (record_for c.args.round.now.past c.args.core.now (slice_index_or c.schedule.result.now c.args.step (record { thread = 0; reused = false })).thread)) (ap (λ (t : ℕ). slice_index c.args.since.now t) c.from.ensures)) ∙ ap (option_map (reason_of_step (made_before c.args.round.now) c.args.step _)) c.in_default.is)
 
 pub returns-in_default-clause-each : goal.returns-in_default-clause-each
 returns-in_default-clause-each c =
@@ -110,11 +110,11 @@ returns-clause-reason c =
     known c.args.round.now c.args.core.now c.args.since.now c.args.step (addresses_of c.args.round.now.setup) c.schedule.result.now
     (record { thread = 0; reused = false }) c.schedule.ensures.valid.setup c.schedule.ensures.valid.by_schedule c.requires.whole c.requires.inside
     c.requires.before refl c.schedule.ensures.schedule in
-    told-of c.args.round.now c.args.core.now c.args.since.now c.args.step (addresses_of c.args.round.now.setup) _ c.number.result c.in-Some.cause k c.requires.before c.number.ensures
+    reported-of c.args.round.now c.args.core.now c.args.since.now c.args.step (addresses_of c.args.round.now.setup) _ c.number.result c.in-Some.cause k c.requires.before c.number.ensures
     ∙ sym (reason-is c.args.round.now c.args.core.now c.args.since.now c.args.step (addresses_of c.args.round.now.setup) _ c.cause_at.result k c.requires.before
     refl c.if-entry.false
     (c.cause_at.ensures.cause
-    ∙ ap (λ (n : ℕ). cause_of (addresses_of c.args.round.now.setup) (last_store c.args.round.now.records n) (hart_of c.args.core.now (slice_index_or c.schedule.result.now c.args.step (record { thread = 0; reused = false })).thread) (record_for c.args.round.now.past c.args.core.now (slice_index_or c.schedule.result.now c.args.step (record { thread = 0; reused = false })).thread)) (ap (λ (t : ℕ). slice_index c.args.since.now t) c.from.ensures)) ∙ ap (option_map (told_of_step (made_before c.args.round.now) c.args.step _)) c.in-Some.is)
+    ∙ ap (λ (n : ℕ). cause_of (addresses_of c.args.round.now.setup) (last_store c.args.round.now.records n) (hart_of c.args.core.now (slice_index_or c.schedule.result.now c.args.step (record { thread = 0; reused = false })).thread) (record_for c.args.round.now.past c.args.core.now (slice_index_or c.schedule.result.now c.args.step (record { thread = 0; reused = false })).thread)) (ap (λ (t : ℕ). slice_index c.args.since.now t) c.from.ensures)) ∙ ap (option_map (reason_of_step (made_before c.args.round.now) c.args.step _)) c.in-Some.is)
 
 pub returns-clause-each : goal.returns-clause-each
 returns-clause-each c =

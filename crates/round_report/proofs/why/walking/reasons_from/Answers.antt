@@ -4,7 +4,7 @@ use Rattle.std.proofs.lemmas.List.{get_or-replicate}
 use Rattle.machine_spec.specs.Setup.{first}
 use Rattle.round_report.specs.declared.why.reason.Reason.{Reason}
 use Rattle.round_report.proofs.Steps.{first-before}
-use Rattle.round_report.proofs.ReasonsSoFar.{told_so_far, executed_so_far, told-next, each-next, all-told, told-scratch}
+use Rattle.round_report.proofs.ReasonsSoFar.{reported_so_far, executed_so_far, reported-next, each-next, all-reported, reported-scratch}
 use Rattle.round_report.proofs.why.walking.reasons_from.Goals as goal
 
 pub loop-step-init : goal.loop-step-init
@@ -12,7 +12,7 @@ loop-step-init c = record {
   pages = c.requires.pages;
   before = first-before c.args.round.now c.args.core.now _ c.requires.first (λ t few. get_or-replicate 32 t 0 0 few);
   whole = c.requires.whole;
-  told = c.new-reasons.ensures.items;
+  reported = c.new-reasons.ensures.items;
   each = λ old. ap (map (λ (r : Reason). r.step)) c.new-reasons.ensures.items;
 }
 
@@ -21,9 +21,9 @@ loop-step-preserved c = record {
   pages = c.reason_at-reason.ensures.pages;
   before = c.in_ok-walk.ensures.before;
   whole = c.in_ok-walk.ensures.whole;
-  told =
-      told-next c.args.round.now c.loop-step.step c.loop-step.reasons.items c.add_reason.new.reasons.items
-      c.reason_at-reason.result c.loop-step.invariant.told c.in_ok-add_reason.ensures c.reason_at-reason.ensures.reason;
+  reported =
+      reported-next c.args.round.now c.loop-step.step c.loop-step.reasons.items c.add_reason.new.reasons.items
+      c.reason_at-reason.result c.loop-step.invariant.reported c.in_ok-add_reason.ensures c.reason_at-reason.ensures.reason;
   each = λ old.
       each-next c.args.round.now c.loop-step.step c.loop-step.reasons.items c.add_reason.new.reasons.items
       c.reason_at-reason.result (c.loop-step.invariant.each old) c.in_ok-add_reason.ensures
@@ -35,8 +35,8 @@ returns-clause-reasons c =
     let same : length c.schedule-step-end.result.now ≡ length c.args.round.now.schedule =
     ap length c.schedule-step-end.ensures.schedule in
     let end : c.loop-step.step ≡ length c.args.round.now.schedule = omega arith in
-    all-told c.args.round.now c.loop-step.reasons.items
-    (c.loop-step.invariant.told ∙ ap (told_so_far c.args.round.now) end)
+    all-reported c.args.round.now c.loop-step.reasons.items
+    (c.loop-step.invariant.reported ∙ ap (reported_so_far c.args.round.now) end)
 
 pub returns-clause-each : goal.returns-clause-each
 returns-clause-each c =
@@ -51,6 +51,6 @@ returns-clause-scratch c =
     ap length c.schedule-step-end.ensures.schedule in
     let end : c.loop-step.step ≡ length c.args.round.now.schedule = omega arith in
     λ sound.
-    told-scratch c.args.round.now c.loop-step.reasons.items c.schedule-step-end.ensures.valid.setup c.schedule-step-end.ensures.valid.by_schedule sound
-    (all-told c.args.round.now c.loop-step.reasons.items
-    (c.loop-step.invariant.told ∙ ap (told_so_far c.args.round.now) end))
+    reported-scratch c.args.round.now c.loop-step.reasons.items c.schedule-step-end.ensures.valid.setup c.schedule-step-end.ensures.valid.by_schedule sound
+    (all-reported c.args.round.now c.loop-step.reasons.items
+    (c.loop-step.invariant.reported ∙ ap (reported_so_far c.args.round.now) end))

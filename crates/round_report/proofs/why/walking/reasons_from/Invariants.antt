@@ -5,7 +5,7 @@ use Rattle.round_report.specs.declared.why.reason.Reason.{Reason}
 use Rattle.round_report.specs.Reasons.{GoesByOldRun}
 use Rattle.round_report.specs.Walking.{IsBefore}
 use Rattle.round_report.specs.Searching.{AreOf}
-use Rattle.round_report.proofs.ReasonsSoFar.{told_so_far, executed_so_far}
+use Rattle.round_report.proofs.ReasonsSoFar.{reported_so_far, executed_so_far}
 use Rattle.round_report.proofs.why.walking.reasons_from.Given as goal
 
 -- the machine is that before the next entry, and the reasons so far are told
@@ -14,7 +14,7 @@ invariant-loop-step l = record {
   pages : AreOf l.round l.pages;
   before : IsBefore l.round l.core l.since l.step;
   whole : IsWhole l.core;
-  told : l.reasons.items ≡ told_so_far l.round l.step;
+  reported : l.reasons.items ≡ reported_so_far l.round l.step;
   each : GoesByOldRun l.round.past l.round.setup
       → map (λ (r : Reason). r.step) l.reasons.items ≡ executed_so_far l.round l.step;
 }

@@ -1,6 +1,6 @@
--- Answers to the goals that the check leaves of `made_rounds_are_told_right`.
+-- Answers to the goals that the check leaves of `made_rounds_are_reported_right`.
 use Rattle.rerun_spec.proofs.Reports.{report-made, exit-made, reports-made, exits-made}
-use Rattle.rerun_spec.proofs.made_rounds_are_told_right.Goals as goal
+use Rattle.rerun_spec.proofs.made_rounds_are_reported_right.Goals as goal
 
 pub returns-clause-report : goal.returns-clause-report
 returns-clause-report c = λ r workers can is. report-made workers r (record { can = can; made = is })

@@ -1,10 +1,10 @@
--- Answers to the goals that the check leaves of `places_tell_who_is_due`.
+-- Answers to the goals that the check leaves of `places_determine_who_is_due`.
 use Rattle.std.proofs.Common.{Some}
 use Rattle.machine_spec.specs.Machine.{hart_of}
 use Rattle.history_spec.specs.Facts.{facts}
 use Rattle.round_spec.specs.Due.{place_in}
 use Rattle.round_spec.proofs.Placed.{absent-due, placed-due, placed-step, step-thread, step-number}
-use Rattle.round_spec.proofs.places_tell_who_is_due.Goals as goal
+use Rattle.round_spec.proofs.places_determine_who_is_due.Goals as goal
 
 pub returns-clause-absent : goal.returns-clause-absent
 returns-clause-absent c = absent-due

@@ -1,9 +1,9 @@
--- Answers to the goals that the check leaves of `hold_together`.
+-- Answers to the goals that the check leaves of `refuse_incoherent`.
 use Rattle.std.proofs.Common.{◌≡◌, ℕ, Option, Some, ap, sym, ◌∙◌, arith, rules}
 use Rattle.std.specs.Prelude.{slice_get}
 use Rattle.memo_spec.specs.Reading.{incoherent_from, coherent_or}
 use Rattle.memo_file.proofs.Cohering.{applied_next, stale_at}
-use Rattle.memo_file.proofs.coherence.hold_together.Goals as goal
+use Rattle.memo_file.proofs.coherence.refuse_incoherent.Goals as goal
 
 pub returns-in-Err-Stale : goal.returns-in-Err-Stale
 returns-in-Err-Stale c =

@@ -18,7 +18,7 @@ use Rattle.isa_spec.specs.declared.RegisterOperation.{RegisterOperation}
 use Rattle.isa_spec.specs.declared.RegisterOperation.TheVariants as register
 use Rattle.isa_spec.specs.Fields.{bits, opcode_of, rd_of, funct3_of, rs1_of, rs2_of, funct7_of, i_immediate, s_immediate, b_immediate, u_immediate, j_immediate}
 use Rattle.isa_spec.specs.Table.{Wanted, fixed, free, Row, is_wanted, row, one_word, branch_row, load_row, store_row, immediate_row, shift_row, register_row, rows, reading_in, reading_of, decoded}
-use Rattle.isa_spec.specs.Encoding.{word_of, i_word, s_word, b_word, u_word, j_word, branch_code, load_code, store_code, immediate_code, shift_code, shift_top, register_code, register_top, InRange, Spells, IsSignExtended, IsOffset, IsUpper}
+use Rattle.isa_spec.specs.Encoding.{word_of, i_word, s_word, b_word, u_word, j_word, branch_code, load_code, store_code, immediate_code, shift_code, shift_top, register_code, register_top, InRange, IsWordOf, IsSignExtended, IsOffset, IsUpper}
 
 -- a field is as a row wants it
 abbrev pub Meets : Wanted → ℕ → Type 0
@@ -29,7 +29,7 @@ Meets free value = ⊤
 abbrev pub IsGood : Row → Type 0
 IsGood r =
     (w : ℕ) → w < 2 ^ 32 → opcode_of w ≡ r.opcode → Meets r.funct3 (funct3_of w) → Meets r.funct7 (funct7_of w)
-    → Meets r.whole w → InRange (r.read w) × Spells w (r.read w)
+    → Meets r.whole w → InRange (r.read w) × IsWordOf w (r.read w)
 
 -- each row is good
 abbrev pub AreGood : List Row → Type 0
@@ -237,7 +237,7 @@ chosen false read others w i P here there e = there e
 found_in :
     (rs : List Row) → AreGood rs → (w : ℕ) (i : Instr) → w < 2 ^ 32
     → option_map (λ f. f w) (reading_in rs (opcode_of w) (funct3_of w) (funct7_of w) w) ≡ Some i
-    → InRange i × Spells w i
+    → InRange i × IsWordOf w i
 found_in [] good w i h e = cc
 found_in (r ∷ rs) good w i h e =
     chosen
@@ -247,13 +247,13 @@ found_in (r ∷ rs) good w i h e =
     (reading_in rs (opcode_of w) (funct3_of w) (funct7_of w) w)
     w
     i
-    (λ j. InRange j × Spells w j)
+    (λ j. InRange j × IsWordOf w j)
     (λ passed. let m = row_meets r (opcode_of w) (funct3_of w) (funct7_of w) w passed in good.0 w h m.0 m.1 m.2 m.3)
     (λ later. found_in rs good.1 w i h later)
     e
 
 -- a word that decodes to an instruction spells it
-pub decoded-spells : (w : ℕ) (i : Instr) → w < 2 ^ 32 → decoded w ≡ Some i → InRange i × Spells w i
+pub decoded-spells : (w : ℕ) (i : Instr) → w < 2 ^ 32 → decoded w ≡ Some i → InRange i × IsWordOf w i
 unfolding decoded reading_of
 decoded-spells w i h e = found_in rows rows_good w i h e
 

@@ -2,7 +2,7 @@
 use Rattle.std.proofs.Common.{◌≡◌, ◌∷◌, [], ◌++◌, take, length, flat_map}
 use Rattle.std.specs.Prelude.{codes, decimal}
 use Rattle.round_report.specs.WhyText.{reason_line}
-use Rattle.round_report.proofs.why.telling.text.Given as goal
+use Rattle.round_report.proofs.why.wording.text.Given as goal
 
 -- the first line, and the lines so far
 abbrev pub invariant-loop-reason : goal.invariant-loop-reason

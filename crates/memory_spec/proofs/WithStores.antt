@@ -4,7 +4,7 @@ use Rattle.std.proofs.lemmas.List.{length-set}
 use Rattle.std.proofs.lemmas.List.Elements.{recursion_from_All, All-from_recursion}
 use Rattle.std.specs.List.{AllByRecursion}
 use Rattle.memory_spec.specs.Pages.{Mapped, Memory, page_of, slot_of, IsMemory}
-use Rattle.memory_spec.specs.Stores.{StoredByte, with_byte, laid}
+use Rattle.memory_spec.specs.Stores.{StoredByte, with_byte, with_stores}
 
 abbrev IsPage : List ℕ → Type 0
 IsPage bytes = length bytes ≡ 4096
@@ -28,7 +28,7 @@ IsMemory-with_byte map m s whole =
     }
 
 -- a memory is one after any stores
-pub IsMemory-laid :
-    (map : List Mapped) (m : Memory) (stores : List StoredByte) → IsMemory map m → IsMemory map (laid map m stores)
-IsMemory-laid map m [] whole = whole
-IsMemory-laid map m (s ∷ stores) whole = IsMemory-laid map (with_byte map m s) stores (IsMemory-with_byte map m s whole)
+pub IsMemory-with_stores :
+    (map : List Mapped) (m : Memory) (stores : List StoredByte) → IsMemory map m → IsMemory map (with_stores map m stores)
+IsMemory-with_stores map m [] whole = whole
+IsMemory-with_stores map m (s ∷ stores) whole = IsMemory-with_stores map (with_byte map m s) stores (IsMemory-with_byte map m s whole)

@@ -3,7 +3,7 @@ use Rattle.std.proofs.Common.{◌≡◌, ◌++◌, codes, decimal, take}
 use Rattle.std.specs.List.{flat_map}
 use Rattle.report_spec.specs.Text.{line}
 use Rattle.memo_reports.specs.RacesText.{race_line}
-use Rattle.memo_reports.proofs.races.telling.text.Given as goal
+use Rattle.memo_reports.proofs.races.wording.text.Given as goal
 
 abbrev pub invariant-loop-race : goal.invariant-loop-race
 invariant-loop-race l =

@@ -4,7 +4,7 @@ use Rattle.std.specs.Prelude.{codes, decimal}
 use Rattle.std.proofs.lemmas.List.{take_all}
 use Rattle.round_report.specs.declared.why.reason.Reason.{Reason}
 use Rattle.round_report.specs.WhyText.{reason_line, why_text}
-use Rattle.round_report.proofs.why.telling.text.Goals as goal
+use Rattle.round_report.proofs.why.wording.text.Goals as goal
 
 whole :
     (reasons : List Reason)

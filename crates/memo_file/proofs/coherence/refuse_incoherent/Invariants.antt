@@ -1,7 +1,7 @@
 -- What is still applied, from the machine so far on, tells what is told of all.
 use Rattle.std.proofs.Common.{◌≡◌, drop}
 use Rattle.memo_spec.specs.Reading.{incoherent_from}
-use Rattle.memo_file.proofs.coherence.hold_together.Given as goal
+use Rattle.memo_file.proofs.coherence.refuse_incoherent.Given as goal
 
 abbrev pub invariant-loop-i : goal.invariant-loop-i
 invariant-loop-i l = incoherent_from l.i l.core (drop l.i l.records) ≡ incoherent_from 0 l.fn.core l.records

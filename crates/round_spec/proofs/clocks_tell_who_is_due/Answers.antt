@@ -1,6 +1,0 @@
--- Answers to the goals that the check leaves of `clocks_tell_who_is_due`.
-use Rattle.round_spec.proofs.Clocked.{passed-clock}
-use Rattle.round_spec.proofs.clocks_tell_who_is_due.Goals as goal
-
-pub returns : goal.returns
-returns c = passed-clock
