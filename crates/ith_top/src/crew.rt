@@ -1,6 +1,6 @@
 //! The workers that make the rounds of a command line. The rounds and the turns that are executed for them are counted.
 
-ghost use Rattle.std.specs.Prelude.{◌≡◌, ◌+◌, ◌≤◌, true, length, option_map, IfOk};
+ghost use Rattle.std.specs.Prelude.{◌≡◌, ◌+◌, ◌≤◌, true, length, option_map, IfOk, OnErr};
 ghost use Rattle.std.specs.Arc.{arc_value};
 ghost use Rattle.round_spec.specs.Schedules.{IsBySchedule};
 ghost use Rattle.round_spec.specs.Workers.{IsMadeBy};
@@ -78,7 +78,8 @@ impl<'a, R: Threads + Wait + Sync, G: Gate + Sync> Crew<'a, R, G> {
     /// This many workers, which made no round so far. Each of several calls the gate before it executes a thunk.
     pub fn new(rt: &'a R, workers: u32, gate: &'a G) -> Self
         requires { 1 ≤ workers }
-        ensures { result.workers ≡ workers }
+        ensures workers { result.workers ≡ workers }
+        ensures none { (result.work.rounds ≡ 0) × (result.work.turns ≡ 0) }
     {
         Crew {
             rt,
@@ -116,6 +117,7 @@ impl<'a, R: Threads + Wait + Sync, G: Gate + Sync> Crew<'a, R, G> {
         ensures cost { IfOk result (λ r. Spends self.old.workers setup (option_map arc_value past)
             r.round
             self.old.work.turns self.new.work.turns) }
+        ensures unmade { OnErr result (self.new.work.turns ≡ self.old.work.turns) }
         ensures counted { self.new.work.rounds ≡ self.old.work.rounds + 1 }
         ensures workers { self.new.workers ≡ self.old.workers }
     {

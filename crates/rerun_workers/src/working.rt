@@ -2,6 +2,7 @@
 
 ghost use Rattle.std.specs.Prelude.{◌≡◌, ◌≢◌, ◌+◌, ◌<◌, ◌≤◌, Some, length, IfOk};
 ghost use Rattle.std.specs.Arc.{arc_value};
+ghost use Rattle.std.specs.Bool.{OnTrue};
 ghost use Rattle.machine_spec.specs.Setup.{first};
 ghost use Rattle.history_spec.specs.History.{History};
 ghost use Rattle.round_spec.specs.Unedited.{IsUnedited};
@@ -125,6 +126,7 @@ pub(super) fn make_unshared<J: Naming, R: Wait, G: Gate>(
     pass: &mut Pass<J>,
     gate: &G,
 ) -> bool
+    ensures holds { OnTrue result (held pass.new.begun ≡ 1) }
     ensures never_lower { pass.old.steps ≤ pass.new.steps }
 {
     for _ in rt.forever() {
