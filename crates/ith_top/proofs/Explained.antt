@@ -9,7 +9,7 @@ use Rattle.rerun_spec.specs.Inputs.{AreRerunInputs}
 use Rattle.rerun_spec.specs.Rounds.{nothing_asked, Beginning, limits_of, after_memo, with_input}
 use Rattle.rerun_workers.proofs.Made.{alone-setup, alone-past}
 use Rattle.round_report.specs.declared.why.reason.Reason.{Reason}
-use Rattle.round_report.specs.Reasons.{reasons_of, reasons_by, scratch_before, executed_places, GoesByOldRun}
+use Rattle.round_report.specs.Reasons.{reasons_of, reasons_by, scratch_before, executed_places, IsBasedOnOldRun}
 use Rattle.propagate.specs.Executing.{executed_by}
 use Rattle.ith_host.specs.World.{World, AsksNothing}
 use Rattle.ith_words.specs.Words.{Text, Reruns, Explains, ExplainLine}
@@ -76,9 +76,9 @@ reasons_reported p w text one gives =
       first = one.first;
       is_text = gives.is_text ∙ ap why_of one.is;
       each = λ goes.
-          let at : GoesByOldRun w.past w.setup =
-          subst (λ (t : Setup). GoesByOldRun w.past t) (sym setup)
-          (subst (λ (o : Option History). GoesByOldRun o s) (sym past) goes) in
+          let at : IsBasedOnOldRun w.past w.setup =
+          subst (λ (t : Setup). IsBasedOnOldRun w.past t) (sym setup)
+          (subst (λ (o : Option History). IsBasedOnOldRun o s) (sym past) goes) in
           ap (map (λ (r : Reason). r.step)) (sym same) ∙ gives.each at
           ∙ ap (λ (x : RoundState). executed_places x.schedule) one.is;
       scratch = λ sound.
@@ -115,8 +115,8 @@ explained_by : (line : ExplainLine) (a : World) (p : Plan) (text : List ℕ) →
     → ReportsReasons p text → HasReasons line a
 explained_by line a p text is tells =
     let h = is.history in
-    let goes : GoesByOldRun p.beginning.past (with_input p.beginning.setup tells.input) =
-    subst (λ (b : Beginning). GoesByOldRun b.past (with_input b.setup tells.input)) (sym is.beginning)
+    let goes : IsBasedOnOldRun p.beginning.past (with_input p.beginning.setup tells.input) =
+    subst (λ (b : Beginning). IsBasedOnOldRun b.past (with_input b.setup tells.input)) (sym is.beginning)
     (record { coherent = is.accepted.coherent; program = refl; fuel = refl }) in
     record {
       plan = p;

@@ -6,7 +6,7 @@ use Rattle.machine_spec.specs.Setup.{Setup, IsSetup}
 use Rattle.history_spec.specs.History.{History, IsSound}
 use Rattle.round_spec.specs.Rounds.{RoundState}
 use Rattle.round_report.specs.declared.why.reason.Reason.{Reason}
-use Rattle.round_report.specs.Reasons.{reasons_of, reasons_by, scratch_before, executed_places, GoesByOldRun}
+use Rattle.round_report.specs.Reasons.{reasons_of, reasons_by, scratch_before, executed_places, IsBasedOnOldRun}
 use Rattle.memo_spec.specs.Encoding.{AreBytes, memo}
 use Rattle.rerun_spec.specs.Encoded.{IsEncodedPast}
 use Rattle.propagate.specs.Consistency.{IsOfMap}
@@ -177,7 +177,7 @@ pub record IsFirstRound (p : Plan) (w : RoundState) : Type 0 where
 pub record GivesReasons (w : RoundState) (text : List ℕ) : Type 0 where
   pub is_text : text ≡ why_of w
   pub each :
-      GoesByOldRun w.past w.setup → map (λ (r : Reason). r.step) (reasons_of w) ≡ executed_places w.schedule
+      IsBasedOnOldRun w.past w.setup → map (λ (r : Reason). r.step) (reasons_of w) ≡ executed_places w.schedule
   pub scratch : IsSound w.past w.setup → reasons_of w ≡ reasons_by (scratch_before w) w
 
 -- A text says why the executed steps of the first round of a plan were executed, as one worker makes it. Each of them
@@ -189,7 +189,7 @@ pub record ReportsReasons (p : Plan) (text : List ℕ) : Type 0 where
   pub first : p.inputs ≡ input ∷ later
   pub is_text : text ≡ why_of (explained_round p.beginning input)
   pub each :
-      GoesByOldRun p.beginning.past (with_input p.beginning.setup input)
+      IsBasedOnOldRun p.beginning.past (with_input p.beginning.setup input)
       → map (λ (r : Reason). r.step) (reasons_of (explained_round p.beginning input))
       ≡ executed_places (explained_round p.beginning input).schedule
   pub scratch :

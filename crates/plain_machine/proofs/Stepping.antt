@@ -44,7 +44,7 @@ stepped m t d memory before done objects output ending a whole is is_memory is_b
     is_objects is_ending =
     finished-parts m t memory d.regs d.end d.put.items output before done objects (m.steps + 1) ending a is_before
     is_asked is_output (omega arith) is_done is_objects is_ending
-    ∙ rw (is_memory ∙ is.lays m.memory whole, is.regs, is.end, is.put) refl
+    ∙ rw (is_memory ∙ is.applies m.memory whole, is.regs, is.end, is.put) refl
 
 -- and what is told of it
 pub reported :

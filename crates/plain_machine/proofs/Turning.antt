@@ -128,7 +128,7 @@ pub is-done :
     → with_stores after.map shared (bytes_of d.stores.items) ≡ merged after.stored after.memory shared)
     → IsDone f view start d
 unfolding thunk
-is-done f view start work after d whole is same left put lays =
+is-done f view start work after d whole is same left put applies =
     let map_is : after.map ≡ f.map = same ∙ ap (λ (w : Workspace). w.map) is in
     let all : record {
       regs = d.regs;
@@ -143,9 +143,9 @@ is-done f view start work after d whole is same left put lays =
       end = ap (λ (l : TurnsOutcome). l.end) all;
       count = ap (λ (l : TurnsOutcome). l.count) all;
       put = put ∙ ap (λ (l : TurnsOutcome). bytes_at f.map l.memory (put_addresses f.map l.end l.regs)) all;
-      lays = λ shared also.
+      applies = λ shared also.
           subst (λ (map : List Mapped). with_stores map shared (bytes_of d.stores.items) ≡ merged after.stored after.memory shared)
-          map_is (lays shared (subst (λ (map : List Mapped). IsMemory map shared) (sym map_is) also))
+          map_is (applies shared (subst (λ (map : List Mapped). IsMemory map shared) (sym map_is) also))
           ∙ ap (λ (l : TurnsOutcome). merged l.stored l.memory shared) all
           ∙ with_stores-merged f.map (turns f.map f.fuel view start).stores view shared whole also;
     }

@@ -43,5 +43,5 @@ pub record IsDone (f : Frame) (view : Memory) (start : Registers) (d : ThunkResu
   pub end : d.end ≡ (thunk f view start).end
   pub count : d.count ≡ (thunk f view start).count
   pub put : d.put.items ≡ (thunk f view start).put
-  pub lays : (shared : Memory) → IsMemory f.map shared
+  pub applies : (shared : Memory) → IsMemory f.map shared
       → with_stores f.map shared (bytes_of d.stores.items) ≡ with_stores f.map shared (thunk f view start).stores

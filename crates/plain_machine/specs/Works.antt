@@ -22,6 +22,6 @@ workspace_of w =
 -- places that they stored to, and change no others. The page that was fetched from last is in its slot.
 pub record Keeps (w : Inside) : Type 0 where
   pub count : length w.memory ≡ length (arc_value w.map)
-  pub lays : (shared : Memory) → IsMemory (arc_value w.map) shared
+  pub applies : (shared : Memory) → IsMemory (arc_value w.map) shared
       → with_stores (arc_value w.map) shared (bytes_of w.stores.items) ≡ merged (stored_of w) w.memory shared
   pub last : IsLast (arc_value w.map) w.last

@@ -10,7 +10,7 @@ ghost use Rattle.machine_calls.specs.Doing.{harts_after, objects_after, own_end,
 ghost use Rattle.plain_machine.specs.Making.{IsMade, asked_by};
 
 use super::memory::Memory;
-use super::stores::lay_all;
+use super::stores::apply_stores;
 use super::thunk::{ThunkResult, run};
 use machine_calls::{Hart, Written, asked, do_as_asked, first_harts, write_back};
 use machine_spec::{Asked, End, Status};
@@ -261,7 +261,7 @@ impl PlainMachine {
         } = self;
         let hart = hart_at(&harts, t);
         let done = run(alloc, &map, fuel, hart.view(), *hart.regs(), turns)?;
-        lay_all(&map, &mut memory, done.stores.as_slice())?;
+        apply_stores(&map, &mut memory, done.stores.as_slice())?;
         output.extend_from_slice(done.put.as_slice())?;
         write_back(&mut harts, t, done.regs);
         let written = Written {

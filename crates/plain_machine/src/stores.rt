@@ -57,7 +57,11 @@ impl Stored {
 /// An error if the host's memory ran out; the memory doesn't change then.
 #[inline(always)]
 #[tactic(auto, using(crate::proofs::Offsets::inside))]
-pub(super) fn lay(map: &PageMap, memory: &mut Memory, stored: Stored) -> Result<(), AllocError>
+pub(super) fn apply_store(
+    map: &PageMap,
+    memory: &mut Memory,
+    stored: Stored,
+) -> Result<(), AllocError>
     requires { length memory.old ≡ length map.now }
     ensures ok { OnOk result (memory.new
         ≡ with_stores map.now memory.old (bytes_stored stored.address stored.size stored.value)) }
@@ -75,7 +79,7 @@ pub(super) fn lay(map: &PageMap, memory: &mut Memory, stored: Stored) -> Result<
 /// # Errors
 ///
 /// An error if the host's memory ran out; some of them may have been applied then.
-pub(super) fn lay_all(
+pub(super) fn apply_stores(
     map: &PageMap,
     memory: &mut Memory,
     stores: &[Stored],
@@ -84,7 +88,7 @@ pub(super) fn lay_all(
     ensures { OnOk result (memory.new ≡ with_stores map.now memory.old (bytes_of stores.now)) }
 {
     for stored in stores {
-        lay(map, memory, *stored)?;
+        apply_store(map, memory, *stored)?;
     }
     Ok(())
 }

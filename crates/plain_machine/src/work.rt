@@ -11,7 +11,7 @@ ghost use Rattle.plain_machine.specs.Stored.{bytes_of};
 
 use super::memory::Memory;
 use super::pages::{LastPage, code_slot, offset_of, permitted};
-use super::stores::{Stored, lay};
+use super::stores::{Stored, apply_store};
 use machine_calls::View;
 use memory_spec::{MemoryError, PAGE_SIZE, Size};
 use page_store::{Mem, Page, PageMap};
@@ -115,7 +115,7 @@ impl Mem for Work {
                 let Ok(()) = self.stores.push(stored) else {
                     return Err(MemoryError::NoMemory);
                 };
-                let Ok(()) = lay(&self.map, &mut self.memory, stored) else {
+                let Ok(()) = apply_store(&self.map, &mut self.memory, stored) else {
                     self.stores.pop();
                     return Err(MemoryError::NoMemory);
                 };

@@ -49,7 +49,7 @@ use Rattle.round_spec.specs.Replaying.{HasReused}
 use Rattle.round_spec.proofs.Replay.{reused-placed}
 use Rattle.propagate.specs.Consistency.{IsApplied}
 use Rattle.propagate.proofs.Appending.{reuse-can}
-use Rattle.propagate.specs.Alike.{is_marked, IsLike, GoesOnAs, IsAsMarked, IsClean, AreClean, IsAsBefore, AreMarksOn, MayBeMarks, marked, all_unmarked, IsNext}
+use Rattle.propagate.specs.Alike.{is_marked, IsLike, ContinuesAs, IsAsMarked, IsClean, AreClean, IsAsBefore, AreMarksOn, MayBeMarks, marked, all_unmarked, IsNext}
 
 -- ---- marks
 
@@ -225,7 +225,7 @@ as-marked-same :
     → IsAsMarked w marks → v.past ≡ w.past → v.machine ≡ w.machine → v.records ≡ w.records → IsAsMarked v marks
 as-marked-same w v None was past machine records = tt
 as-marked-same w v (Some marks) was past machine records = λ h is.
-    let old : GoesOnAs h marks.items w = was h (sym past ∙ is) in
+    let old : ContinuesAs h marks.items w = was h (sym past ∙ is) in
     record {
       valid = old.valid;
       coherent = old.coherent;
@@ -285,7 +285,7 @@ whole-then h k valid coherent =
 -- one record more on both sides, of the same thread and with the same call
 pub as-before-more :
     (w v : RoundState) (h : History) (marks after : List Bool) (r q : Record)
-    → GoesOnAs h marks w → IsWhole w.machine
+    → ContinuesAs h marks w → IsWhole w.machine
     → slice_get h.records (length w.records) ≡ Some r
     → q.thread ≡ r.thread → ask_of q ≡ ask_of r → fits w.machine q ≡ true
     → length after ≡ length marks
@@ -297,7 +297,7 @@ pub as-before-more :
     → page_of (masked w.machine.memory q.kept.delta) p
     ≡ page_of (masked (machine_at h (length w.records)).memory r.kept.delta) p)
     → v.machine ≡ apply w.machine q → v.records ≡ w.records ++ q ∷ []
-    → GoesOnAs h after v
+    → ContinuesAs h after v
 as-before-more w v h marks after r q goes whole at thread ask fit long more pages machine records =
     let k : ℕ = length w.records in
     let m : Machine = machine_at h (length w.records) in
@@ -334,10 +334,10 @@ as-before-more w v h marks after r q goes whole at thread ask fit long more page
 -- the very record in its place
 pub as-before-reused :
     (w v : RoundState) (h : History) (marks : List Bool) (r : Record)
-    → GoesOnAs h marks w → IsWhole w.machine
+    → ContinuesAs h marks w → IsWhole w.machine
     → slice_get h.records (length w.records) ≡ Some r → fits w.machine r ≡ true
     → v.machine ≡ apply w.machine r → v.records ≡ w.records ++ r ∷ []
-    → GoesOnAs h marks v
+    → ContinuesAs h marks v
 as-before-reused w v h marks r goes whole at fit machine records =
     as-before-more w v h marks marks r r goes whole at refl refl fit refl (λ p clean. clean)
     (λ p clean size long same. masked-same r.kept.delta (machine_at h (length w.records)).memory w.machine.memory p size same)
@@ -370,7 +370,7 @@ unmarked-read marks (r ∷ reads) p clean read =
 
 pub next-fits :
     (w : RoundState) (h : History) (marks : List Bool) (t : ℕ) (r : Record)
-    → GoesOnAs h marks w → w.past ≡ Some h
+    → ContinuesAs h marks w → w.past ≡ Some h
     → place_in w.past w.machine t ≡ length w.records → record_for w.past w.machine t ≡ Some r
     → all_unmarked marks r.kept.reads ≡ true
     → IsNext w t r
@@ -470,7 +470,7 @@ pub as-before-start :
     (setup : Setup) (h : History) (marks : List Bool)
     → IsSetup h.setup → is_coherent h ≡ true → IsSameProgram h.setup setup → h.setup.fuel ≡ setup.fuel
     → AreMarksOn (first h.setup).memory (first setup).memory marks
-    → GoesOnAs h marks (opening setup (Some h))
+    → ContinuesAs h marks (opening setup (Some h))
 as-before-start setup h marks valid coherent same fuel are =
     let like : IsLike marks (first h.setup) (first setup) = start-like h.setup setup marks same fuel are in
     record { valid = valid; coherent = coherent; numbers = like.number; like = λ none. like }
@@ -619,7 +619,7 @@ commit-as-marked w v rec (Some old) (Some new) was whole fit are past machine re
     let after : new.items ≡ marked (marked old.items (written_slots r)) (written_slots rec) =
     are.after_both
     ∙ ap (λ (l : List Bool). marked (marked l (written_slots are.in_place.record_there)) (written_slots rec)) (sym marks) in
-    let goes : GoesOnAs h old.items w = was h own in
+    let goes : ContinuesAs h old.items w = was h own in
     let clean_both : (p : ℕ) → is_marked new.items p ≡ false → is_marked (marked old.items (written_slots r)) p ≡ false =
     λ p clean.
     marked-before (marked old.items (written_slots r)) (written_slots rec) p

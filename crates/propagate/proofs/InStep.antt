@@ -22,7 +22,7 @@ use Rattle.round_spec.proofs.Choosing.{any-nobody}
 use Rattle.round_spec.proofs.Coherent.{coherent-next, coherent-next-on, coherent-over}
 use Rattle.round_spec.proofs.Following.{next-chosen}
 use Rattle.propagate.specs.declared.picking.Candidate.{Candidate}
-use Rattle.propagate.specs.Alike.{IsLike, GoesOnAs, IsAsMarked}
+use Rattle.propagate.specs.Alike.{IsLike, ContinuesAs, IsAsMarked}
 use Rattle.propagate.specs.Choosing.{leader_of, free_below}
 use Rattle.propagate.specs.Consistency.{IsInStep}
 use Rattle.propagate.proofs.Appending.{going-none}
@@ -45,7 +45,7 @@ none-past (x ∷ rs) (suc k) none = let rest = none-past rs k none in omega arit
 
 next-of :
     (w : RoundState) (h : History) (marks : List Bool) (r : Record)
-    → GoesOnAs h marks w → w.past ≡ Some h → w.in_flight ≡ none_in_flight → IsWhole w.machine → is_finished w ≡ false
+    → ContinuesAs h marks w → w.past ≡ Some h → w.in_flight ≡ none_in_flight → IsWhole w.machine → is_finished w ≡ false
     → slice_get h.records (length w.records) ≡ Some r
     → choice_by w.past w.machine w.in_flight ≡ Some r.thread
 next-of w h marks r goes past nobody whole going at =
@@ -97,7 +97,7 @@ numbered h coherent = by h.records refl
 
 over-due :
     (w : RoundState) (h : History) (marks : List Bool) (u : ℕ)
-    → GoesOnAs h marks w → w.past ≡ Some h → length h.records ≤ length w.records
+    → ContinuesAs h marks w → w.past ≡ Some h → length h.records ≤ length w.records
     → is_due w.past w.machine u ≡ true
 over-due w h marks u goes past all =
     let place : place_in (Some h) w.machine u ≡ length h.records =

@@ -37,7 +37,7 @@ use Rattle.round_spec.specs.Due.{place_in}
 use Rattle.round_spec.specs.Rounds.{RoundState, can_begin}
 use Rattle.round_spec.proofs.Happening.{CanBegin, can_begin-parts}
 use Rattle.propagate.specs.Consistency.{IsOfMap}
-use Rattle.propagate.specs.Alike.{GoesOnAs, IsAsMarked}
+use Rattle.propagate.specs.Alike.{ContinuesAs, IsAsMarked}
 use Rattle.propagate.proofs.Alike.{at-place, first-memory}
 use Rattle.propagate.proofs.Appending.{below-32}
 use Rattle.propagate.specs.declared.times.PageVersion.{PageVersion}
@@ -591,7 +591,7 @@ pub comparable :
     → h.setup.fuel ≡ w.setup.fuel → IsOfMap w.past w.setup
     → IsComparable w h
 comparable w h marks was past whole framed fuel map =
-    let goes : GoesOnAs h marks.items w = was h past in
+    let goes : ContinuesAs h marks.items w = was h past in
     record {
       valid = goes.valid;
       coherent = goes.coherent;

@@ -19,7 +19,7 @@ use Rattle.propagate.specs.Consistency.{IsConsistent, KnowsEnough}
 use Rattle.propagate.specs.Alike.{IsAsBefore}
 use Rattle.propagate.specs.declared.versions.Versions.{Versions}
 use Rattle.propagate.specs.Versions.{AreRight}
-use Rattle.propagate.specs.Committing.{CanCommit, GoesOn, picked_at}
+use Rattle.propagate.specs.Committing.{CanCommit, Continues, picked_at}
 use Rattle.propagate.proofs.Keeping.{valid_consistent, valid-happens, kept-happens, kept-more, applied-round, knows-in_flight}
 use Rattle.propagate.proofs.Mapped.{happens-on_map}
 use Rattle.propagate.proofs.Alike.{as-before-same}
@@ -223,7 +223,7 @@ discarded-kept w v i t fs b vs kept in_flight is =
 -- ---- the entries of a round after it
 
 -- a round that is as before has as many
-pub goes-nowhere : (v w : RoundState) → v ≡ w → GoesOn 0 w v
+pub goes-nowhere : (v w : RoundState) → v ≡ w → Continues 0 w v
 goes-nowhere v w is =
     record {
       setup = ap (λ (x : RoundState). x.setup) is;
@@ -234,7 +234,7 @@ goes-nowhere v w is =
 -- one with an entry more
 pub goes-more :
     (v w u : RoundState) (e : Entry)
-    → v.setup ≡ w.setup → v.past ≡ w.past → v.schedule ≡ w.schedule ++ e ∷ [] → w ≡ u → GoesOn 1 u v
+    → v.setup ≡ w.setup → v.past ≡ w.past → v.schedule ≡ w.schedule ++ e ∷ [] → w ≡ u → Continues 1 u v
 goes-more v w u e setup past more is =
     record {
       setup = setup ∙ ap (λ (x : RoundState). x.setup) is;

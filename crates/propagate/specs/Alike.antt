@@ -36,7 +36,7 @@ pub record IsLike (marks : List Bool) (old m : Machine) : Type 0 where
 
 -- A round continues as a history did, which may be run and is coherent. Each thread has made as many steps as in the
 -- history's machine after as many steps as the round's. Unless that machine has ended, the round's is like it.
-pub record GoesOnAs (h : History) (marks : List Bool) (w : RoundState) : Type 0 where
+pub record ContinuesAs (h : History) (marks : List Bool) (w : RoundState) : Type 0 where
   pub valid : IsSetup h.setup
   pub coherent : is_coherent h ≡ true
   pub numbers : (u : ℕ) → (hart_of w.machine u).number ≡ (hart_of (machine_at h (length w.records)) u).number
@@ -47,7 +47,7 @@ pub record GoesOnAs (h : History) (marks : List Bool) (w : RoundState) : Type 0 
 -- The same for the history that a round is based on, if marks are kept.
 abbrev pub IsAsMarked : RoundState → Option (Vec Bool Global) → Type 0
 IsAsMarked w None = ⊤
-IsAsMarked w (Some marks) = (h : History) → w.past ≡ Some h → GoesOnAs h marks.items w
+IsAsMarked w (Some marks) = (h : History) → w.past ≡ Some h → ContinuesAs h marks.items w
 
 -- No page is marked.
 abbrev pub IsClean : List Bool → Type 0

@@ -45,7 +45,7 @@ entries_of (Stale back) = 0
 entries_of (Memory back) = 0
 
 -- A round of the same setup, based on the same history, with so many more entries.
-pub record GoesOn (n : ℕ) (old new : RoundState) : Type 0 where
+pub record Continues (n : ℕ) (old new : RoundState) : Type 0 where
   pub setup : new.setup ≡ old.setup
   pub past : new.past ≡ old.past
   pub entries : length new.schedule ≡ length old.schedule + n

@@ -10,7 +10,7 @@ ghost use Rattle.release_core.specs.Jobs.{IsJobOf};
 ghost use Rattle.round_spec.specs.declared.events.Event.TheVariants as event;
 ghost use Rattle.round_spec.specs.Rounds.{is_in_flight, can_take, can_reuse, happens};
 ghost use Rattle.propagate.specs.Appending.{trail, Appends};
-ghost use Rattle.propagate.specs.Committing.{CanCommit, Commits, GoesOn, IsOfStep, entries_of, picked_at};
+ghost use Rattle.propagate.specs.Committing.{CanCommit, Commits, Continues, IsOfStep, entries_of, picked_at};
 ghost use Rattle.propagate.specs.Consistency.{IsValid};
 
 use super::marks::{is_in_place, marks_after, marks_if};
@@ -92,7 +92,7 @@ impl Round {
     pub fn reuse(&mut self, t: u8) -> Result<(), AllocError>
         requires { can_reuse self.old t ≡ true }
         ensures ok { OnOk result (self.new ≡ happens self.old (event.Reuse t)) }
-        ensures same { GoesOn (if is_ok result then 1 else 0) self.old self.new }
+        ensures same { Continues (if is_ok result then 1 else 0) self.old self.new }
         ensures err { OnErr result (self.new ≡ self.old) }
         ensures valid { IsValid self.old }
     {
@@ -131,7 +131,7 @@ impl Round {
         requires { can_take self.old t ≡ true }
         ensures ok { OnOk result (self.new ≡ happens self.old (event.Take t)) }
         ensures job { IfOk result (λ job. IsJobOf self.old.machine t job) }
-        ensures same { GoesOn 0 self.old self.new }
+        ensures same { Continues 0 self.old self.new }
         ensures err { OnErr result (self.new ≡ self.old) }
         ensures valid { IsValid self.old }
     {
@@ -192,7 +192,7 @@ impl Round {
         ensures ok { OnOk result (self.new
             ≡ happens (happens self.old (event.Take (arc_value run.now.rec).thread))
             (event.Commit (arc_value run.now.rec).thread)) }
-        ensures same { GoesOn (if is_ok result then 1 else 0) self.old self.new }
+        ensures same { Continues (if is_ok result then 1 else 0) self.old self.new }
         ensures err { OnErr result (self.new ≡ self.old) }
         ensures valid { IsValid self.old }
     {
@@ -226,7 +226,7 @@ impl Round {
     /// which takes longest.
     pub fn commit(&mut self, run: Run) -> Committed
         ensures does { Commits self.old run result self.new }
-        ensures same { GoesOn (entries_of result) self.old self.new }
+        ensures same { Continues (entries_of result) self.old self.new }
     {
         if *run.frame == *self.core.frame() {
             return self.commit_own(run);
@@ -239,7 +239,7 @@ impl Round {
     pub fn commit_own(&mut self, run: Run) -> Committed
         requires own { arc_value run.frame ≡ (first self.old.setup).frame }
         ensures does { Commits self.old run result self.new }
-        ensures same { GoesOn (entries_of result) self.old self.new }
+        ensures same { Continues (entries_of result) self.old self.new }
         ensures valid { IsValid self.old }
     {
         let can = self.can_commit(&run);
@@ -253,7 +253,7 @@ impl Round {
         requires own { arc_value run.frame ≡ (first self.old.setup).frame }
         requires of_step { IsOfStep self.old (arc_value run.rec) }
         ensures does { Commits self.old run result self.new }
-        ensures same { GoesOn (entries_of result) self.old self.new }
+        ensures same { Continues (entries_of result) self.old self.new }
         ensures valid { IsValid self.old }
     {
         let can = self.can_commit_taken(&run);
@@ -280,7 +280,7 @@ impl Round {
         requires no { OnFalse can
             (CanCommit self.old (arc_value run.frame) (arc_value run.rec) → ⊥) }
         ensures does { Commits self.old run result self.new }
-        ensures same { GoesOn (entries_of result) self.old self.new }
+        ensures same { Continues (entries_of result) self.old self.new }
         ensures valid { IsValid self.old }
     {
         if !can {
@@ -296,7 +296,7 @@ impl Round {
     /// Discards the step of thread `t` that was taken, if one was.
     fn discard(&mut self, t: u8)
         ensures event { self.new ≡ happens self.old (event.GiveBack t) }
-        ensures same { GoesOn 0 self.old self.new }
+        ensures same { Continues 0 self.old self.new }
         ensures valid { IsValid self.old }
     {
         if self.is_in_flight(t) {
@@ -310,7 +310,7 @@ impl Round {
     pub fn give_back(&mut self, t: u8)
         requires { is_in_flight self.old t ≡ true }
         ensures event { self.new ≡ happens self.old (event.GiveBack t) }
-        ensures same { GoesOn 0 self.old self.new }
+        ensures same { Continues 0 self.old self.new }
     {
         self.discard(t);
     }
@@ -319,7 +319,7 @@ impl Round {
     #[tactic(auto, using(crate::proofs::Keeping::valid_consistent))]
     pub fn stop(&mut self)
         ensures event { self.new ≡ happens self.old event.Stop }
-        ensures same { GoesOn 0 self.old self.new }
+        ensures same { Continues 0 self.old self.new }
         ensures valid { IsValid self.old }
     {
         self.stopped = true;

@@ -2,32 +2,32 @@
 use Rattle.std.proofs.Common.{◌≡◌, ◌+◌, ℕ, length, Option, sym, subst, ◌∙◌, arith}
 use Rattle.atomic_table.specs.Seated.{TableId}
 use Rattle.round_spec.specs.Rounds.{RoundState}
-use Rattle.propagate.specs.Committing.{GoesOn}
+use Rattle.propagate.specs.Committing.{Continues}
 use Rattle.rerun_workers.specs.declared.watching.Counter.{Counter}
 use Rattle.rerun_workers.specs.Watching.{IsCounting}
 
-same-length : (w v : RoundState) → GoesOn 0 w v → length v.schedule ≡ length w.schedule
+same-length : (w v : RoundState) → Continues 0 w v → length v.schedule ≡ length w.schedule
 same-length w v on = let same = on.entries in omega (arith, same)
 
 -- no entry came to it
-pub counted_on : (w v : RoundState) (total : ℕ) → GoesOn 0 w v → length w.schedule ≡ total → length v.schedule ≡ total
+pub counted_on : (w v : RoundState) (total : ℕ) → Continues 0 w v → length w.schedule ≡ total → length v.schedule ≡ total
 counted_on w v total on counted = same-length w v on ∙ counted
 
 pub watched_on :
     (w v : RoundState) (table : TableId) (counter : Option Counter)
-    → GoesOn 0 w v → IsCounting table (length w.schedule) counter → IsCounting table (length v.schedule) counter
+    → Continues 0 w v → IsCounting table (length w.schedule) counter → IsCounting table (length v.schedule) counter
 watched_on w v table counter on watched =
     subst (λ (n : ℕ). IsCounting table n counter) (sym (same-length w v on)) watched
 
 -- one entry more did, and was counted
 pub counted_more :
     (w v : RoundState) (total more : ℕ)
-    → GoesOn 1 w v → more ≡ total + 1 → length w.schedule ≡ total → length v.schedule ≡ more
+    → Continues 1 w v → more ≡ total + 1 → length w.schedule ≡ total → length v.schedule ≡ more
 counted_more w v total more on added counted = let entries = on.entries in omega (arith, entries, added, counted)
 
 pub watched_more :
     (w v : RoundState) (table : TableId) (counter later : Option Counter)
-    → GoesOn 1 w v
+    → Continues 1 w v
     → ((t : TableId) (steps : ℕ) → IsCounting t steps counter → IsCounting t (steps + 1) later)
     → IsCounting table (length w.schedule) counter → IsCounting table (length v.schedule) later
 watched_more w v table counter later on counts watched =

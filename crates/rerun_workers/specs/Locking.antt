@@ -91,10 +91,10 @@ steps_by (outcome.Stale back) = 0
 steps_by (outcome.Memory back) = 0
 
 -- A run that doesn't become an entry is returned unchanged.
-abbrev pub HandsBack : Run → CommitOutcome → Type 0
-HandsBack run outcome.Done = ⊤
-HandsBack run (outcome.Stale back) = back ≡ run
-HandsBack run (outcome.Memory back) = back ≡ run
+abbrev pub ReturnsRun : Run → CommitOutcome → Type 0
+ReturnsRun run outcome.Done = ⊤
+ReturnsRun run (outcome.Stale back) = back ≡ run
+ReturnsRun run (outcome.Memory back) = back ≡ run
 
 -- A worker's steps rose by as many as the round's entries.
 abbrev pub Counts : ℕ → RoundState → ℕ → RoundState → Type 0

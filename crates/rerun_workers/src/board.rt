@@ -18,7 +18,7 @@ ghost use Rattle.rerun_workers.specs.declared.locked.Task.TheVariants as task;
 ghost use Rattle.rerun_workers.specs.Making.{IsClosed, ComparesNone};
 ghost use Rattle.rerun_workers.specs.Passes.{held};
 ghost use Rattle.rerun_workers.specs.Tickets.{IsTicketFor, IsRunOfTicket};
-ghost use Rattle.rerun_workers.specs.Locking.{BeginsIn, BeginsNothing, begun_by, IsReady, HandsBack, steps_by};
+ghost use Rattle.rerun_workers.specs.Locking.{BeginsIn, BeginsNothing, begun_by, IsReady, ReturnsRun, steps_by};
 
 use super::effort::Effort;
 use super::locked::{CommitOutcome, Locked, Task};
@@ -364,9 +364,9 @@ impl<J: Naming> Board<J> {
     /// registers and read pages are compared.
     pub fn commit<R: Wait>(&self, rt: &R, pass: &mut Pass<J>, run: Run) -> CommitOutcome
         requires own { arc_value run.frame ≡ (first J.setup).frame }
-        ensures back { HandsBack run result }
+        ensures back { ReturnsRun run result }
         ensures counts { pass.new.steps ≡ pass.old.steps + steps_by result }
-        ensures handed { pass.new.handed.number ≡ pass.old.handed.number + 1 }
+        ensures submitted { pass.new.submitted.number ≡ pass.old.submitted.number + 1 }
         ensures taken { pass.new.taken.number ≡ pass.old.taken.number }
     {
         let outcome = self.lock.lock(rt).commit(pass, run);
@@ -380,9 +380,9 @@ impl<J: Naming> Board<J> {
     pub fn commit_taken<R: Wait>(&self, rt: &R, pass: &mut Pass<J>, run: Run) -> CommitOutcome
         requires own { arc_value run.frame ≡ (first J.setup).frame }
         requires ticket { IsRunOfTicket pass.old.ticket run }
-        ensures back { HandsBack run result }
+        ensures back { ReturnsRun run result }
         ensures counts { pass.new.steps ≡ pass.old.steps + steps_by result }
-        ensures handed { pass.new.handed.number ≡ pass.old.handed.number + 1 }
+        ensures submitted { pass.new.submitted.number ≡ pass.old.submitted.number + 1 }
         ensures taken { pass.new.taken.number ≡ pass.old.taken.number }
     {
         let outcome = self.lock.lock(rt).commit_taken(pass, run);
@@ -400,7 +400,7 @@ impl<J: Naming> Board<J> {
     /// Discards the step of a job that couldn't be executed, and stops the round under the lock.
     pub fn fail<R: Wait>(&self, rt: &R, pass: &mut Pass<J>, job: Job)
         ensures counts { pass.new.steps ≡ pass.old.steps }
-        ensures handed { pass.new.handed.number ≡ pass.old.handed.number + 1 }
+        ensures submitted { pass.new.submitted.number ≡ pass.old.submitted.number + 1 }
         ensures taken { pass.new.taken.number ≡ pass.old.taken.number }
     {
         self.lock.lock(rt).fail(pass, &job);

@@ -12,14 +12,14 @@ ghost use Rattle.round_spec.specs.Rounds.{opening, can_take, can_reuse, happens}
 ghost use Rattle.round_spec.specs.Choice.{pick_of};
 ghost use Rattle.round_spec.specs.Unedited.{IsUnedited};
 ghost use Rattle.propagate.specs.Choosing.{is_something};
-ghost use Rattle.propagate.specs.Committing.{Commits, GoesOn, entries_of};
+ghost use Rattle.propagate.specs.Committing.{Commits, Continues, entries_of};
 ghost use Rattle.propagate.specs.Consistency.{IsValid};
 ghost use Rattle.rerun_workers.specs.Following.{FollowsPicks};
 ghost use Rattle.std.proofs.Props.{props};
 ghost use Rattle.rerun_workers.specs.Watching.{IsCounting};
 ghost use Rattle.rerun_workers.specs.Passes.{held};
 ghost use Rattle.rerun_workers.specs.Tickets.{AreIssued, IsLastOf, IsNamed, IsTicketFor, IsRunOfTicket};
-ghost use Rattle.rerun_workers.specs.Locking.{Assigns, AssignsAfter, BeginsIn, BeginsNothing, begun_by, IsReady, given_up, Lands, HandsBack, steps_by, Counts};
+ghost use Rattle.rerun_workers.specs.Locking.{Assigns, AssignsAfter, BeginsIn, BeginsNothing, begun_by, IsReady, given_up, Lands, ReturnsRun, steps_by, Counts};
 
 use super::naming::{Naming, Pass};
 use super::watching::Counter;
@@ -80,7 +80,7 @@ pub struct Locked<J: Naming> {
 /// Discards the step of thread `t`, if one is in flight.
 fn discard(round: &mut Round, t: u8)
     ensures event { round.new ≡ happens round.old (event.GiveBack t) }
-    ensures same { GoesOn 0 round.old round.new }
+    ensures same { Continues 0 round.old round.new }
     ensures valid { IsValid round.old }
 {
     if round.is_in_flight(t) {
@@ -91,7 +91,7 @@ fn discard(round: &mut Round, t: u8)
 /// Discards the step of thread `t`, if one is in flight, and stops the round.
 fn give_up(round: &mut Round, t: u8)
     ensures events { round.new ≡ given_up round.old t }
-    ensures same { GoesOn 0 round.old round.new }
+    ensures same { Continues 0 round.old round.new }
     ensures valid { IsValid round.old }
 {
     discard(round, t);
@@ -118,7 +118,7 @@ fn commit_run(round: &mut Round, issuer: &Issuer, ticket: Option<Ticket>, run: R
     requires named { IsNamed issuer.now.book ticket }
     requires ticket { IsRunOfTicket ticket run }
     ensures does { Commits round.old run result round.new }
-    ensures same { GoesOn (entries_of result) round.old round.new }
+    ensures same { Continues (entries_of result) round.old round.new }
     ensures valid { IsValid round.old }
 {
     if is_last(issuer, &ticket, run.rec.thread()) {
@@ -171,7 +171,7 @@ impl<J: Naming> Locked<J> {
         ensures ok { OnOk result (self.new.round ≡ happens self.old.round (event.Reuse t)) }
         ensures err { OnErr result (self.new.round ≡ self.old.round) }
         ensures counts { Counts pass.old.steps self.old.round pass.new.steps self.new.round }
-        ensures same { GoesOn (if is_ok result then 1 else 0) self.old.round self.new.round }
+        ensures same { Continues (if is_ok result then 1 else 0) self.old.round self.new.round }
         ensures few { OnOk result (length self.new.round.schedule ≤ MOST_STEPS) }
         ensures asked { pass.new.asked.number ≡ pass.old.asked.number }
         ensures taken { pass.new.taken.number ≡ pass.old.taken.number }
@@ -194,7 +194,7 @@ impl<J: Naming> Locked<J> {
     /// Stops the round.
     fn stop(&mut self)
         ensures round { self.new.round ≡ happens self.old.round event.Stop }
-        ensures same { GoesOn 0 self.old.round self.new.round }
+        ensures same { Continues 0 self.old.round self.new.round }
     {
         let Locked { round, .. } = self;
         round.stop();
@@ -206,7 +206,7 @@ impl<J: Naming> Locked<J> {
         requires picked { pick_of self.old.round ≡ pick.Run t }
         requires can { can_take self.old.round t ≡ true }
         ensures does { AssignsAfter self.old.round result self.new.round }
-        ensures same { GoesOn 0 self.old.round self.new.round }
+        ensures same { Continues 0 self.old.round self.new.round }
         ensures own { BeginsIn (first J.setup).frame result }
         ensures unedited { (h : History) → J.past ≡ Some h → IsUnedited h J.setup
             → BeginsNothing result }
@@ -277,9 +277,9 @@ impl<J: Naming> Locked<J> {
     pub fn commit(&mut self, pass: &mut Pass<J>, run: Run) -> CommitOutcome
         requires own { arc_value run.frame ≡ (first J.setup).frame }
         ensures does { Lands self.old.round run result self.new.round }
-        ensures back { HandsBack run result }
+        ensures back { ReturnsRun run result }
         ensures made { pass.new.steps ≡ pass.old.steps + steps_by result }
-        ensures handed { pass.new.handed.number ≡ pass.old.handed.number + 1 }
+        ensures submitted { pass.new.submitted.number ≡ pass.old.submitted.number + 1 }
         ensures taken { pass.new.taken.number ≡ pass.old.taken.number }
         ensures counts { Counts pass.old.steps self.old.round pass.new.steps self.new.round }
     {
@@ -293,9 +293,9 @@ impl<J: Naming> Locked<J> {
         requires own { arc_value run.frame ≡ (first J.setup).frame }
         requires ticket { IsRunOfTicket pass.old.ticket run }
         ensures does { Lands self.old.round run result self.new.round }
-        ensures back { HandsBack run result }
+        ensures back { ReturnsRun run result }
         ensures made { pass.new.steps ≡ pass.old.steps + steps_by result }
-        ensures handed { pass.new.handed.number ≡ pass.old.handed.number + 1 }
+        ensures submitted { pass.new.submitted.number ≡ pass.old.submitted.number + 1 }
         ensures taken { pass.new.taken.number ≡ pass.old.taken.number }
         ensures counts { Counts pass.old.steps self.old.round pass.new.steps self.new.round }
     {
@@ -308,11 +308,11 @@ impl<J: Naming> Locked<J> {
         let Pass {
             share,
             steps,
-            handed,
+            submitted,
             ticket,
             ..
         } = pass;
-        handed.raise(1);
+        submitted.raise(1);
         book.audit(share);
         match commit_run(round, issuer, ticket.take(), run) {
             Committed::Done => {
@@ -333,10 +333,10 @@ impl<J: Naming> Locked<J> {
     pub fn fail(&mut self, pass: &mut Pass<J>, job: &Job)
         ensures does { self.new.round ≡ given_up self.old.round job.now.thread }
         ensures counts { pass.new.steps ≡ pass.old.steps }
-        ensures handed { pass.new.handed.number ≡ pass.old.handed.number + 1 }
+        ensures submitted { pass.new.submitted.number ≡ pass.old.submitted.number + 1 }
         ensures taken { pass.new.taken.number ≡ pass.old.taken.number }
     {
-        pass.handed.raise(1);
+        pass.submitted.raise(1);
         let Locked { round, .. } = self;
         give_up(round, job.thread);
     }

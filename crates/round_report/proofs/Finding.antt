@@ -15,7 +15,7 @@ use Rattle.machine_spec.specs.Setup.{Setup, first, map_of, data_pages}
 use Rattle.history_spec.specs.History.{History, IsMappedIn, IsMapped, can_apply_from, is_of, found, past_records}
 use Rattle.history_spec.proofs.Applying.{apply-frame}
 use Rattle.round_spec.specs.Marks.{record_for, is_fitting, fits_next}
-use Rattle.round_report.specs.Reasons.{IsOldRun, GoesByOldRun}
+use Rattle.round_report.specs.Reasons.{IsOldRun, IsBasedOnOldRun}
 
 -- what is found passes the test, and has what all have
 find-passes :
@@ -95,7 +95,7 @@ unfolding first
 first-fuel s = refl
 
 pub found-within :
-    (past : Option History) (setup : Setup) (t number : ℕ) (r : Record) → GoesByOldRun past setup
+    (past : Option History) (setup : Setup) (t number : ℕ) (r : Record) → IsBasedOnOldRun past setup
     → found past t number ≡ Some r
     → may_end setup.fuel r.kept.end r.kept.count ≡ true
 found-within None setup t number r old there = cc there
@@ -116,7 +116,7 @@ fits-whole m t r thread number ready regs reads ended =
     rw (thread, ready, same, regs, reads, ended) refl
 
 pub fits-anyway :
-    (past : Option History) (setup : Setup) (m : Machine) (t : ℕ) (r : Record) → GoesByOldRun past setup
+    (past : Option History) (setup : Setup) (m : Machine) (t : ℕ) (r : Record) → IsBasedOnOldRun past setup
     → m.frame.fuel ≡ setup.fuel → is_ready (hart_of m t).status ≡ true → record_for past m t ≡ Some r
     → same_registers r.start (hart_of m t).regs ≡ true → has (hart_of m t).view r.kept.reads ≡ true
     → fits_next past m t ≡ true
@@ -143,7 +143,7 @@ none_gives P (Some a) is has = cc is
 -- the same of the history that a round goes by
 pub past-mapped :
     (past : Option History) (setup : Setup) (t number : ℕ) (r : Record)
-    → ((h : History) → past ≡ Some h → IsMapped h) → found past t number ≡ Some r → GoesByOldRun past setup
+    → ((h : History) → past ≡ Some h → IsMapped h) → found past t number ≡ Some r → IsBasedOnOldRun past setup
     → All (λ (p : ReadPage). p.slot < length (map_of setup)) r.kept.reads
 past-mapped None setup t number r mapped there old = absurd (cc)
 past-mapped (Some h) setup t number r mapped there old =

@@ -59,9 +59,9 @@ pub record IsOldRun (h : History) (setup : Setup) : Type 0 where
   pub fuel : h.setup.fuel ≡ setup.fuel
 
 -- The history that a round is based on, if any, is such a history.
-abbrev pub GoesByOldRun : Option History → Setup → Type 0
-GoesByOldRun None setup = ⊤
-GoesByOldRun (Some h) setup = IsOldRun h setup
+abbrev pub IsBasedOnOldRun : Option History → Setup → Type 0
+IsBasedOnOldRun None setup = ⊤
+IsBasedOnOldRun (Some h) setup = IsOldRun h setup
 
 -- The machine from scratch before entry i of a round.
 abbrev pub scratch_before : RoundState → ℕ → Machine

@@ -86,7 +86,7 @@ fn sum_of(bytes: &[u8]) -> u32 {
 }
 
 /// Whether the guest of a number makes its 154 steps under a schedule, and outputs the sum of its input's bytes.
-fn puts_out_the_sum<R: Threads>(
+fn outputs_the_sum<R: Threads>(
     rt: &R,
     alloc: Global,
     number: u32,
@@ -110,7 +110,7 @@ fn the_output_is_the_sum_of_the_input(rt: HostRuntime) -> Result<(), Fail> {
     let alloc = rt.alloc();
     let schedules = [one_after_the_other(alloc)?, side_by_side(alloc)?];
     for schedule in schedules.iter() {
-        assert!(rt; puts_out_the_sum(&rt, alloc, 7, schedule.as_slice())?);
+        assert!(rt; outputs_the_sum(&rt, alloc, 7, schedule.as_slice())?);
     }
     Ok(())
 }

@@ -19,7 +19,7 @@ struct Meeting {
 }
 
 /// How often the thread of a held thunk yields at most.
-const MOST_TURNS: u64 = 16_777_216;
+const MOST_YIELDS: u64 = 16_777_216;
 
 /// The bit of a thunk, or 0 if its numbers are too large.
 fn bit_of(thread: u8, number: u32) -> u64 {
@@ -32,9 +32,9 @@ fn bit_of(thread: u8, number: u32) -> u64 {
 }
 
 impl Meeting {
-    /// Holds a thunk until another one comes, for at most `MOST_TURNS` yields.
+    /// Holds a thunk until another one comes, for at most `MOST_YIELDS` yields.
     fn hold(&self, other: u64) {
-        for _ in 0..MOST_TURNS {
+        for _ in 0..MOST_YIELDS {
             if self.came.load(Ordering::SeqCst) & other != 0 {
                 return;
             }

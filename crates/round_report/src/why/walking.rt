@@ -13,7 +13,7 @@ ghost use Rattle.round_spec.specs.Marks.{record_for, fits_next};
 ghost use Rattle.memo_reports.specs.Listing.{addresses_of};
 ghost use Rattle.round_report.specs.Differences.{first_other_page, page_cause, cause_of};
 ghost use Rattle.round_report.specs.Storing.{last_store};
-ghost use Rattle.round_report.specs.Reasons.{made_before, scratch_before, reason_of, reasons_by, reasons_of, is_executed, executed_places, GoesByOldRun};
+ghost use Rattle.round_report.specs.Reasons.{made_before, scratch_before, reason_of, reasons_by, reasons_of, is_executed, executed_places, IsBasedOnOldRun};
 ghost use Rattle.round_report.specs.Walking.{IsBefore};
 ghost use Rattle.round_report.specs.Searching.{AreOf};
 
@@ -80,7 +80,7 @@ fn page_cause(
 /// The record of a thread at a number of steps in the history that a round is based on, if there is one.
 fn record_of(round: &Round, thread: u8, number: u32) -> Option<&Arc<Record>>
     ensures found { option_map (λ r. arc_value r.now) result ≡ found round.now.past thread number }
-    ensures mapped { IfSome result (λ r. GoesByOldRun round.now.past round.now.setup
+    ensures mapped { IfSome result (λ r. IsBasedOnOldRun round.now.past round.now.setup
         → All (λ (p : Read). p.slot < length (map_of round.now.setup))
         (arc_value r.now).kept.reads) }
 {
@@ -132,7 +132,7 @@ fn cause_at(
         ≡ cause_of (addresses_of round.now.setup) (last_store round.now.records since)
         (hart_of core.now thread) (record_for round.now.past core.now thread) }
     ensures pages { AreOf round.now pages.new }
-    ensures none { IfNone result (GoesByOldRun round.now.past round.now.setup
+    ensures none { IfNone result (IsBasedOnOldRun round.now.past round.now.setup
         → fits_next round.now.past core.now thread ≡ true) }
 {
     match record_of(round, thread, core.number(thread)) {
@@ -156,7 +156,7 @@ fn reason_at(
     ensures pages { AreOf round.now pages.new }
     ensures reason { result
         ≡ reason_of (made_before round.now) round.now step (slice_get round.now.schedule step) }
-    ensures each { GoesByOldRun round.now.past round.now.setup
+    ensures each { IsBasedOnOldRun round.now.past round.now.setup
         → is_some result ≡ is_executed (slice_get round.now.schedule step) }
 {
     let entry = round.schedule()[step];
@@ -243,7 +243,7 @@ fn reasons_from(
     requires whole { IsWhole core.old }
     requires pages { AreOf round.now pages.old }
     ensures reasons { IfOk result (λ rs. rs.items ≡ reasons_of round.now) }
-    ensures each { IfOk result (λ rs. GoesByOldRun round.now.past round.now.setup
+    ensures each { IfOk result (λ rs. IsBasedOnOldRun round.now.past round.now.setup
         → map (λ (r : Reason). r.step) rs.items ≡ executed_places round.now.schedule) }
     ensures scratch { IfOk result (λ rs. IsSound round.now.past round.now.setup
         → rs.items ≡ reasons_by (scratch_before round.now) round.now) }
@@ -266,7 +266,7 @@ fn reasons_from(
 /// An error if the host's memory ran out.
 pub fn reasons(alloc: Global, round: &Round) -> Result<Vec<Reason>, AllocError>
     ensures reasons { IfOk result (λ rs. rs.items ≡ reasons_of round.now) }
-    ensures each { IfOk result (λ rs. GoesByOldRun round.now.past round.now.setup
+    ensures each { IfOk result (λ rs. IsBasedOnOldRun round.now.past round.now.setup
         → map (λ (r : Reason). r.step) rs.items ≡ executed_places round.now.schedule) }
     ensures scratch { IfOk result (λ rs. IsSound round.now.past round.now.setup
         → rs.items ≡ reasons_by (scratch_before round.now) round.now) }

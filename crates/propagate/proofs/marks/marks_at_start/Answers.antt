@@ -4,7 +4,7 @@ use Rattle.std.specs.Arc.{arc_value}
 use Rattle.machine_spec.specs.Setup.{Setup, IsSetup, first}
 use Rattle.history_spec.specs.History.{History, IsSameProgram}
 use Rattle.round_spec.specs.Rounds.{opening}
-use Rattle.propagate.specs.Alike.{AreMarksOn, GoesOnAs}
+use Rattle.propagate.specs.Alike.{AreMarksOn, ContinuesAs}
 use Rattle.propagate.proofs.Alike.{as-before-start}
 use Rattle.propagate.proofs.marks.marks_at_start.Goals as goal
 
@@ -20,7 +20,7 @@ returns-in_ok-marks-in-Some c =
           c.setup-in-Some.ensures.setup ∙ ap (λ (x : History). x.setup) (c.deref-in-Some.ensures ∙ own) in
           let marks = c.in_ok-marks-in-Some.marks.items in
           let new = c.args.setup.now in
-          subst (λ (past : Option History). GoesOnAs h marks (opening new past)) (sym is)
+          subst (λ (past : Option History). ContinuesAs h marks (opening new past)) (sym is)
           (as-before-start new h marks
           (subst IsSetup same c.in_ok-marks-in-Some.ensures.valid)
           (sym (c.requires.coherent h is) ∙ c.if-coherent.true)

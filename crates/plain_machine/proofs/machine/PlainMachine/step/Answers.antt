@@ -73,16 +73,16 @@ invariant_of-machine c =
     (subst (λ (v : Memory). IsDone m.frame v c.regs.result.now c.in_ok-done.done) view_is c.in_ok-done.ensures.done) in
     let stores = bytes_of c.in_ok-done.done.stores.items in
     let asks : Asked = asked_by c.args.t c.in_ok-done.done in
-    let is_memory : c.lay_all.new.memory ≡ with_stores map c.self.inside.memory stores =
-    c.in_ok-lay_all.ensures
+    let is_memory : c.apply_stores.new.memory ≡ with_stores map c.self.inside.memory stores =
+    c.in_ok-apply_stores.ensures
     ∙ ap (λ (p : List Mapped). with_stores p c.self.inside.memory (bytes_of c.as_slice.result.now)) c.deref.ensures
     ∙ ap (λ x. with_stores map c.self.inside.memory (bytes_of x)) c.as_slice.ensures.value in
     let is_output : c.extend_from_slice.new.self.items ≡ c.self.inside.output.items ++ c.in_ok-done.done.put.items =
     grind (arith, common_steps, c.in_ok-extend_from_slice.ensures.items, c.as_slice-2.ensures.value) in
-    let is_harts : c.finish.new.harts.items ≡ harts_after map c.self.inside.objects c.lay_all.new.memory c.args.t
+    let is_harts : c.finish.new.harts.items ≡ harts_after map c.self.inside.objects c.apply_stores.new.memory c.args.t
     c.write_back.new.harts.items asks =
     c.in_ok-made.ensures.harts
-    ∙ ap (λ (p : List Mapped). harts_after p c.self.inside.objects c.lay_all.new.memory c.args.t
+    ∙ ap (λ (p : List Mapped). harts_after p c.self.inside.objects c.apply_stores.new.memory c.args.t
     c.write_back.new.harts.items asks) c.deref-2.ensures in
     let is_objects : c.finish.new.objects ≡ objects_after map c.self.inside.objects c.args.t
     asks =
@@ -95,7 +95,7 @@ invariant_of-machine c =
     ∙ ap (λ (p : List Mapped). step.end_after (own_end p c.self.inside.objects c.args.t asks)
     c.finish.new.harts.items c.self.inside.limit (c.self.inside.steps + 1)) c.deref-2.ensures in
     subst IsWhole
-    (sym (stepped m c.args.t c.in_ok-done.done c.lay_all.new.memory
+    (sym (stepped m c.args.t c.in_ok-done.done c.apply_stores.new.memory
     c.write_back.new.harts.items c.finish.new.harts.items c.finish.new.objects
     c.extend_from_slice.new.self.items c.in_ok-made.ending asks
     c.self.invariant.memory is_done is_memory c.write_back.ensures.harts refl is_output is_harts is_objects
@@ -126,16 +126,16 @@ returns-clause-machine c =
     (subst (λ (v : Memory). IsDone m.frame v c.regs.result.now c.in_ok-done.done) view_is c.in_ok-done.ensures.done) in
     let stores = bytes_of c.in_ok-done.done.stores.items in
     let asks : Asked = asked_by c.args.t c.in_ok-done.done in
-    let is_memory : c.lay_all.new.memory ≡ with_stores map c.self.inside.memory stores =
-    c.in_ok-lay_all.ensures
+    let is_memory : c.apply_stores.new.memory ≡ with_stores map c.self.inside.memory stores =
+    c.in_ok-apply_stores.ensures
     ∙ ap (λ (p : List Mapped). with_stores p c.self.inside.memory (bytes_of c.as_slice.result.now)) c.deref.ensures
     ∙ ap (λ x. with_stores map c.self.inside.memory (bytes_of x)) c.as_slice.ensures.value in
     let is_output : c.extend_from_slice.new.self.items ≡ c.self.inside.output.items ++ c.in_ok-done.done.put.items =
     grind (arith, common_steps, c.in_ok-extend_from_slice.ensures.items, c.as_slice-2.ensures.value) in
-    let is_harts : c.finish.new.harts.items ≡ harts_after map c.self.inside.objects c.lay_all.new.memory c.args.t
+    let is_harts : c.finish.new.harts.items ≡ harts_after map c.self.inside.objects c.apply_stores.new.memory c.args.t
     c.write_back.new.harts.items asks =
     c.in_ok-made.ensures.harts
-    ∙ ap (λ (p : List Mapped). harts_after p c.self.inside.objects c.lay_all.new.memory c.args.t
+    ∙ ap (λ (p : List Mapped). harts_after p c.self.inside.objects c.apply_stores.new.memory c.args.t
     c.write_back.new.harts.items asks) c.deref-2.ensures in
     let is_objects : c.finish.new.objects ≡ objects_after map c.self.inside.objects c.args.t
     asks =
@@ -147,7 +147,7 @@ returns-clause-machine c =
     c.in_ok-made.ensures.ending
     ∙ ap (λ (p : List Mapped). step.end_after (own_end p c.self.inside.objects c.args.t asks)
     c.finish.new.harts.items c.self.inside.limit (c.self.inside.steps + 1)) c.deref-2.ensures in
-    stepped m c.args.t c.in_ok-done.done c.lay_all.new.memory
+    stepped m c.args.t c.in_ok-done.done c.apply_stores.new.memory
     c.write_back.new.harts.items c.finish.new.harts.items c.finish.new.objects
     c.extend_from_slice.new.self.items c.in_ok-made.ending asks
     c.self.invariant.memory is_done is_memory c.write_back.ensures.harts refl is_output is_harts is_objects

@@ -10,7 +10,7 @@ invariant_of-result c =
     rw (c.in_ok-try_clone.ensures, c.in_ok-share.ensures) c.requires in
     record {
       count = copied.count;
-      lays = λ shared whole.
+      applies = λ shared whole.
           kept-none (arc_value c.in_ok-try_clone.field-0) c.in_ok-share.field-0 c.new.result.items shared copied
           c.new.ensures.items whole;
       last = c.none.ensures (arc_value c.in_ok-try_clone.field-0);

@@ -9,42 +9,42 @@ use Rattle.plain_machine.proofs.Laying.{with_stores_count}
 use Rattle.plain_machine.proofs.Merging.{kept-more, marked-more}
 use Rattle.plain_machine.proofs.work.WorkMem.store.Goals as goal
 
-abbrev number : goal.In-Ok-lay → StoredNumber
+abbrev number : goal.In-Ok-apply_store → StoredNumber
 number c = record { address = c.args.address; size = c.args.size; value = c.args.value }
 
 -- the store was listed after the others
-listed : (c : goal.In-Ok-lay) → c.push.new.self.items ≡ c.self.inside.stores.items ++ number c ∷ []
+listed : (c : goal.In-Ok-apply_store) → c.push.new.self.items ≡ c.self.inside.stores.items ++ number c ∷ []
 listed c = c.in-Ok.ensures.items ∙ ap (λ (s : StoredNumber). c.self.inside.stores.items ++ s ∷ []) c.new-stored.ensures
 
 -- and laid on the memory
 pages :
-    (c : goal.In-Ok-lay)
-    → c.lay.new.memory ≡ with_stores (arc_value c.self.inside.map) c.self.inside.memory
+    (c : goal.In-Ok-apply_store)
+    → c.apply_store.new.memory ≡ with_stores (arc_value c.self.inside.map) c.self.inside.memory
     (bytes_stored c.args.address c.args.size c.args.value)
 pages c =
-    c.in-Ok-lay.ensures.ok
+    c.in-Ok-apply_store.ensures.ok
     ∙ ap (λ map. with_stores map c.self.inside.memory
     (bytes_stored c.new-stored.result.address c.new-stored.result.size c.new-stored.result.value)) c.deref-in-Some.ensures
     ∙ ap (λ (s : StoredNumber). with_stores (arc_value c.self.inside.map) c.self.inside.memory
     (bytes_stored s.address s.size s.value)) c.new-stored.ensures
 
-pub invariant_of-self-in-Ok-lay : goal.invariant_of-self-in-Ok-lay
-invariant_of-self-in-Ok-lay c =
+pub invariant_of-self-in-Ok-apply_store : goal.invariant_of-self-in-Ok-apply_store
+invariant_of-self-in-Ok-apply_store c =
     record {
       count = ap length (pages c)
           ∙ with_stores_count (arc_value c.self.inside.map) c.self.inside.memory
           (bytes_stored c.args.address c.args.size c.args.value)
           ∙ c.self.invariant.count;
-      lays = λ shared whole.
+      applies = λ shared whole.
           rw (listed c, pages c)
           (kept-more (arc_value c.self.inside.map) c.self.inside.stores.items (number c) c.self.inside.memory shared
-          (c.self.invariant.lays shared whole));
+          (c.self.invariant.applies shared whole));
       last = c.self.invariant.last;
     }
 
-pub returns-in-Ok-lay : goal.returns-in-Ok-lay
+pub returns-in-Ok-apply_store : goal.returns-in-Ok-apply_store
 unfolding may_store
-returns-in-Ok-lay c =
+returns-in-Ok-apply_store c =
     let perm : c.in-Some.perm.0 ≡ permission_at (arc_value c.self.inside.map) c.args.address =
     rw (← c.deref.ensures) c.in-Some.ensures.perm in
     rw (

@@ -2,7 +2,7 @@
 use Rattle.std.proofs.Common.{◌≡◌, map}
 use Rattle.machine_spec.specs.Whole.{IsWhole}
 use Rattle.round_report.specs.declared.why.reason.Reason.{Reason}
-use Rattle.round_report.specs.Reasons.{GoesByOldRun}
+use Rattle.round_report.specs.Reasons.{IsBasedOnOldRun}
 use Rattle.round_report.specs.Walking.{IsBefore}
 use Rattle.round_report.specs.Searching.{AreOf}
 use Rattle.round_report.proofs.ReasonsSoFar.{reported_so_far, executed_so_far}
@@ -15,6 +15,6 @@ invariant-loop-step l = record {
   before : IsBefore l.round l.core l.since l.step;
   whole : IsWhole l.core;
   reported : l.reasons.items ≡ reported_so_far l.round l.step;
-  each : GoesByOldRun l.round.past l.round.setup
+  each : IsBasedOnOldRun l.round.past l.round.setup
       → map (λ (r : Reason). r.step) l.reasons.items ≡ executed_so_far l.round l.step;
 }

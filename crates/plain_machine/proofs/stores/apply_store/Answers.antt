@@ -1,9 +1,9 @@
--- What is left to prove of `lay`.
+-- What is left to prove of `apply_store`.
 use Rattle.std.proofs.Common.{◌≡◌, ◌%◌, ◌<◌, ℕ, length, set, ap, sym, ◌∙◌, arith}
 use Rattle.memory_spec.specs.Pages.{slot_of, page_of}
 use Rattle.plain_machine.specs.Stored.{with_number}
 use Rattle.plain_machine.proofs.Placing.{with_stores_in_page, with_stores_nowhere}
-use Rattle.plain_machine.proofs.stores.lay.Goals as goal
+use Rattle.plain_machine.proofs.stores.apply_store.Goals as goal
 
 pub returns-in_ok-write-clause-ok : goal.returns-in_ok-write-clause-ok
 returns-in_ok-write-clause-ok c =

@@ -1,8 +1,8 @@
--- What holds at the loop of `lay_all`.
+-- What holds at the loop of `apply_stores`.
 use Rattle.std.proofs.Common.{◌≡◌, drop, length}
 use Rattle.memory_spec.specs.Stores.{with_stores}
 use Rattle.plain_machine.specs.Stored.{bytes_of}
-use Rattle.plain_machine.proofs.stores.lay_all.Given as goal
+use Rattle.plain_machine.proofs.stores.apply_stores.Given as goal
 
 -- what the rest of the stores leaves is what they all leave
 abbrev pub invariant-loop-stored : goal.invariant-loop-stored
