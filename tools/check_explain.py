@@ -50,7 +50,7 @@ SAID = {
     "deep": ["thread 2 used more than the 65,536 bytes of its stack", "into the stack of thread 1"],
 }
 SAYING = {  # what says a line, and what stands before its text
-    "refuse": "", "end": "", "say": "", "error": "error: ", "NotBuilt": "", "Ended": "", "NoGuest": "FILE: ",
+    "refuse": "", "say": "", "error": "error: ", "NotBuilt": "", "Ended": "", "NoGuest": "FILE: ",
     "NoSymbols": "FILE: ", "NotReports": "FILE: ",
 }
 SAID_BY_OTHERS = [

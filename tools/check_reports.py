@@ -45,7 +45,7 @@ REFUSED = [
     ("reused 0", "reused 0 ", 8), ("executed 2", "executed 1", 9), ("executed 2", "executed", 8),
     ("executed 2", "executed 2\nreached 65537", 19), ("executed 2", "executed 2\nreached", 18),
     ("executed 2", "executed 2\nreaches 2", 17), ("executed 2", "executed 2\nreached 2\nreached 2", 21),
-    ("instructions 8", "instructions x", 13), ("by 2", "by 1", 2), ("by 2", "by", 2), ("by 2", "by 2 ", 5),
+    ("instructions 8", "instructions x", 13), ("instructions 8", f"instructions {'1' * 5000}", 33), ("by 2", "by 1", 2), ("by 2", "by", 2), ("by 2", "by 2 ", 5),
     ("by 2", "by 2" + " 0" * 16, 2), ("by 2", "by 2\nprogress", 13), ("by 2", "by 2\nprogress 1", 13),
     ("by 2", "by 2\nprogress 2 2", 13), ("by 2", "by 2\nprogress 1 2 3", 13), ("by 2", "by 2\nprogress 02", 15),
     ("by 2", "by 2\nprogress 2\nprogress 2", 16), ("schedule 0+ 0+", "schedule 0+ 0=", 8), ("schedule 0+ 0+", "schedule 0+", 11),

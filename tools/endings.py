@@ -1,4 +1,7 @@
 """The statuses of a tool that ends as a guest did, or says why it didn't, and the words for that."""
+import argparse
+import sys
+
 import reports
 
 OF_ITHREADS = 200  # and its status
@@ -13,6 +16,8 @@ TRAPS = [  # by cause
 ]
 FUEL, STEPS = 1_000_000, 4096  # the limits of a run, where nothing is said
 ENDS = {"trap": 211, "deadlock": 212, "spent": 213}
+FORBIDDEN = 10  # the status of a replay or a trace whose schedule no run takes
+NOT_BUILT = 125  # a status of tools/launch
 FAILURES = {  # ithreads' statuses; its own line says which file it is
     2: "the words aren't understood",
     3: "the executable is refused",
@@ -22,7 +27,20 @@ FAILURES = {  # ithreads' statuses; its own line says which file it is
     8: "memory ran out",
     9: "a file is too long: an input or an edit list has at most 1,048,576 bytes, an executable 16,777,216, a memo "
        "268,435,456",
+    NOT_BUILT: "the program isn't built, and can't be",
 }
+
+
+class Words(argparse.ArgumentParser):
+    """The words of a tool that ends as a guest did: wrong ones have a status that isn't taken for a guest's."""
+
+    def __init__(self, tool, **how):
+        super().__init__(allow_abbrev=False, formatter_class=argparse.RawDescriptionHelpFormatter, **how)
+        self.tool = tool
+
+    def error(self, message):
+        self.print_usage(sys.stderr)
+        self.tool.refuse(OF_ITHREADS + WORDS, message)
 
 
 def rounds_of(printed):

@@ -1,7 +1,22 @@
-"""What differs at a false step of a memo, by the machine of machine.py, which shares no code with the program. The
-steps before it are true, so it follows them from scratch and then makes the step itself."""
+"""The first false step of a memo, by `ithreads audit`; and what differs there, by the machine of machine.py, which
+shares no code with the program. The steps before it are true, so it follows them from scratch and then makes the step
+itself."""
+import pathlib
+
 import memos
 from machine import Image, Machine
+from running import ran
+
+PROGRAM = pathlib.Path(__file__).resolve().parent.parent / "ithreads"
+DISHONEST = 11  # the status of an audit that finds a false record
+
+
+def first(tool, name):
+    """The place of the first false step of a memo; none if it is honest."""
+    done = ran(PROGRAM, "audit", "--", name)
+    if done.status not in (0, DISHONEST):
+        tool.refuse(2, f"ithreads ended with status {done.status}: {done.complaint()}")
+    return int(done.printed.split()[-1]) if done.status else None
 
 
 class Watched(Machine):

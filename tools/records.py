@@ -4,6 +4,7 @@ guest's own function stands that called the library.
 A record's registers are those of the end of its step, so a frame is read from what the thread's stack had then: what
 its steps have stored there so far. A function of the library saves its return address where its first instructions say.
 """
+import pathlib
 from dataclasses import dataclass
 
 import memos
@@ -70,6 +71,18 @@ def symbols_for(tool, name, elf):
             tool.refuse(2, f"{name} isn't the memo's guest: it has other code or data")
     except symbols.NoSymbols as why:
         tool.refuse(2, f"{name}: {why}")
+    found.read_library()
+    return found
+
+
+def symbols_of(tool, name, elf, folder):
+    """The symbols of a memo's guest, in the executable of this name; or without a name in the memo's own, which is
+    written to a folder for that."""
+    if name is not None:
+        return symbols_for(tool, name, elf)
+    file = pathlib.Path(folder) / "guest.elf"
+    file.write_bytes(elf)
+    found = symbols.found_in(str(file), elf)
     found.read_library()
     return found
 

@@ -86,7 +86,7 @@ class Reader:
         return found.group()
 
     def number(self):
-        return int(self.some(rb"0|[1-9][0-9]*", "a decimal number"))
+        return int(self.some(rb"0|[1-9][0-9]{0,19}", "a decimal number"))
 
     def digits(self, count):
         digits = self.some(rb"[0-9a-f]{0,%d}" % count, "")

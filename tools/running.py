@@ -1,8 +1,11 @@
 """Runs a program of this repository. What it says while it is built goes on to standard error at once."""
+import contextlib
 import subprocess
 import sys
 import threading
 from dataclasses import dataclass
+
+from endings import FAILURES
 
 OF_BUILDING = ("ithreads: ", "trace: ")  # how lines of tools/launch begin, and no line of the programs
 
@@ -16,8 +19,28 @@ class Ran:
     said: list
 
     def complaint(self):
-        """The last of the lines."""
-        return self.said[-1] if self.said else ""
+        """The last of the lines, or what the status means."""
+        return self.said[-1] if self.said else FAILURES.get(self.status, "")
+
+
+@contextlib.contextmanager
+def started(*words, **how):
+    """A program, which is stopped if this tool is. Words may name standard input, and files that this tool was given
+    open, as by `<(..)` of a shell."""
+    child = subprocess.Popen(words, close_fds=False, **how)
+    try:
+        yield child
+    except BaseException:
+        child.terminate()
+        child.wait()
+        raise
+
+
+def printed_by(*words):
+    """The status of a program, and what it prints; its standard error is that of this tool."""
+    with started(*words, stdout=subprocess.PIPE) as child:
+        printed = child.stdout.read()
+        return child.wait(), printed
 
 
 def listen(stream, said, live):
@@ -32,17 +55,12 @@ def listen(stream, said, live):
 
 
 def ran(*words, live=None):
-    """Runs it to its end; it is stopped if this tool is. A line on a terminal is taken away before something is said."""
-    child = subprocess.Popen(words, stdin=subprocess.DEVNULL, stdout=subprocess.PIPE, stderr=subprocess.PIPE)
+    """Runs it to its end. A line on a terminal is taken away before something is said."""
     said = []
-    listener = threading.Thread(target=listen, args=(child.stderr, said, live), daemon=True)
-    listener.start()
-    try:
+    with started(*words, stdout=subprocess.PIPE, stderr=subprocess.PIPE) as child:
+        listener = threading.Thread(target=listen, args=(child.stderr, said, live), daemon=True)
+        listener.start()
         printed = child.stdout.read()
         status = child.wait()
-    except BaseException:
-        child.kill()
-        child.wait()
-        raise
-    listener.join()
+        listener.join()
     return Ran(status, printed, said)

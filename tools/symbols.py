@@ -204,3 +204,11 @@ def line_of(frames):
     behind = [one for one in known if not one[1].endswith(IN_HEADER)]
     own = [one for one in behind if not OF_LIBRARY.search(one[1])]
     return next(((name, f"{file.rpartition('/')[2]}:{line}") for name, file, line in own or behind or known), None)
+
+
+def found_in(name, elf):
+    """The symbols of an executable, as far as it has some."""
+    try:
+        return Symbols(name, elf)
+    except NoSymbols:
+        return Symbols(name, elf, has_names=False)

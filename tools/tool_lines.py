@@ -110,7 +110,7 @@ LINES = [
      "that is how long it takes; fewer --tries take less, and so does a smaller input"),
     (r"nothing of this build is proved; .*", "the program is compiled without a proof, for trying it out; ./ithreads "
                                              "proves it"),
-    (r"there is no 'rt' to compile it: .*", sentences.explained("ithreads: the program is not built, and there is no "
+    (r"there is no 'rt' to compile it", sentences.explained("ithreads: the program is not built, and there is no "
                                                                 "'rt' to build it")),
     (r"the program was not compiled", "the lines before this one say why; after a change of the code, mend that"),
     (r"the program of \./(\w+) isn't built, and can't be", "./{1} says why: call it, then install again"),
