@@ -2,13 +2,18 @@
 from, the words for guest/build and the library are as they were."""
 import hashlib
 import json
+import os
 import pathlib
 import re
+import shutil
 import subprocess
+
+from running import started
 
 GUEST = pathlib.Path(__file__).resolve().parent.parent / "guest"
 OF_COMPILER = {f"{name}.h" for name in "float iso646 limits stdalign stdarg stdbool stddef stdint stdnoreturn".split()}
 INCLUDE = re.compile(rb'^[ \t]*#[ \t]*include[ \t]*(?:<([^>\n]*)>|"([^"\n]*)")', re.M)
+TEXT_OR_COMMENT = re.compile(rb"""("(?:\\.|[^"\\\n])*"|'(?:\\.|[^'\\\n])*')|//[^\n]*|/\*.*?\*/""", re.S)
 
 
 class NotBuilt(Exception):
@@ -19,15 +24,31 @@ def digest(data):
     return hashlib.sha256(data).hexdigest()
 
 
+def linked(file, name):
+    """Gives a file another name, in whose place no other call puts another file; whether it is there."""
+    try:
+        os.link(file, name)
+    except FileNotFoundError:
+        return False
+    except OSError:
+        shutil.copyfile(file, name)
+    return True
+
+
+def without_comments(data):
+    return TEXT_OR_COMMENT.sub(lambda found: found.group(1) or b" ", data)
+
+
 def included(files, folders):
     """The contents of these files and of all that they include; and the names of the headers that aren't found."""
-    found, missing, coming = {}, set(), list(files)
+    found, seen, missing, coming = {}, set(), set(), list(files)
     while coming:
         file = coming.pop()
-        if file in found:
+        if file.resolve() in seen:
             continue
+        seen.add(file.resolve())
         found[file] = file.read_bytes()
-        for names in INCLUDE.findall(found[file]):
+        for names in INCLUDE.findall(without_comments(found[file])):
             name = (names[0] or names[1]).decode("utf-8", "replace")
             header = next((it / name for it in (file.parent, *folders) if (it / name).is_file()), None)
             if header is None:
@@ -38,14 +59,16 @@ def included(files, folders):
 
 
 class Building:
-    """What a guest is built from: a C file, with others that the words for guest/build may name."""
+    """What a guest is built from: a C file, with others that the words for guest/build may name. If `--no-libc` is
+    among the words, the C library isn't added."""
 
     def __init__(self, program, words):
-        self.program, self.words = program, words
+        self.program, self.words = program, [word for word in words if word != "--no-libc"]
         others = [pathlib.Path(word) for word in words if word.endswith(".c")]
         folders = [pathlib.Path(word[2:]) for word in words if word.startswith("-I")]
         self.files, missing = included([program, *others], folders)
-        self.options = ["--libc"] if missing - OF_COMPILER - {"ithreads.h"} and "--libc" not in words else []
+        is_asked = "--libc" in words or "--no-libc" in words
+        self.options = ["--libc"] if missing - OF_COMPILER - {"ithreads.h"} and not is_asked else []
 
     def record(self, executable):
         """What tells this executable from any that other files or words make."""
@@ -61,12 +84,23 @@ class Building:
         except (OSError, ValueError):
             return False
 
-    def build(self, executable, record, part):
-        """Builds the guest in a folder of this call alone, and then puts it in place of the other one."""
-        made, written = part / "guest.elf", part / "built"
-        words = [GUEST / "build", *self.options, *self.words, self.program, made]
-        if subprocess.run(words, stdin=subprocess.DEVNULL, stdout=subprocess.DEVNULL, check=False).returncode:
+    def executable(self, kept, record, part):
+        """The guest in a folder of this call alone: the one that is kept, or else a new one, which is kept then."""
+        own = part / "guest.elf"
+        linked(kept, own)
+        if not self.is_built(own, record):
+            own.unlink(missing_ok=True)
+            self.build(own, kept, record, part)
+        return own
+
+    def build(self, own, kept, record, part):
+        made, written = part / "made", part / "built"
+        words = [GUEST / "build", *self.options, *self.words, self.program, own]
+        with started(*words, stdin=subprocess.DEVNULL, stdout=subprocess.DEVNULL) as child:
+            status = child.wait()
+        if status:
             raise NotBuilt(f"guest/build refuses {self.program}")
-        written.write_text(json.dumps(self.record(made.read_bytes()), indent=1) + "\n")
-        made.replace(executable)
+        written.write_text(json.dumps(self.record(own.read_bytes()), indent=1) + "\n")
+        linked(own, made)
+        made.replace(kept)
         written.replace(record)

@@ -8,7 +8,7 @@
   - On a terminal a line says what is going on, and standard output is as ever.
   - Its status is the guest's, or that of its --help.
   - A C file is built if it, a file that it includes or the words are others, and not else; --libc is found out. If
-    building fails, what was there stays.
+    building fails, what was there stays. Each of several words has a guest and a memo of its own.
   - Calls that are killed at any moment leave nothing that the next one stumbles over; several at once don't either.
   - With --watch each save makes a call.
 """
@@ -34,6 +34,9 @@ HEADERS = [  # C files with what they include, and whether that takes the C libr
     ({"a.c": "#include <ithreads.h>\n# include <stdio.h>\n"}, True),
     ({"a.c": '#include "ithreads.h"\n#include "b.h"\n', "b.h": "#include <stddef.h>\n"}, False),
     ({"a.c": '#include "ithreads.h"\n#include "b.h"\n', "b.h": '#include "a.c"\n#include <pthread.h>\n'}, True),
+    ({"a.c": '#include "ithreads.h"\n#include "sub/b.h"\n', "sub/b.h": '#include "../a.c"\n'}, False),
+    ({"a.c": '#include "ithreads.h"\n/* as in\n#include <stdio.h>\n*/ // /*\nchar *text = "/*";\n'}, False),
+    ({"a.c": '#include "ithreads.h"\nchar *text = "/*";\n#include <stdio.h> /* */\n'}, True),
     ({"a.c": "int main(void) { return 0; }\n"}, False)]
 SOURCE = """#include "ithreads.h"
 #include "code.h"
@@ -195,6 +198,7 @@ def check_statuses(checks):
             (("cross.elf", empty, *ALONE), 212, "ended by deadlock"),
             (("hi.elf", empty, "--", "--fuel", "4"), 213, "as --fuel allows"),
             (("hi.elf", empty, "--", "--steps", "x"), 202, "status 2"), (("hi.elf",), 202, "usage"),
+            (("hi.elf", empty, "--fuel", "5"), 202, "; write the options of `ithreads run` at the end, after `--`"),
             (("hi.elf", empty, "--memo", "x"), 202, "usage"), (("hi.elf", empty, "--", "--memo", "x"), 202, "usage"),
             (("hi.elf", checks.file("large", bytes(MOST_INPUT + 1))), 209, "large has more than 1,048,576 bytes"),
             (("hi.elf", empty, "--build", "-DX"), 202, "usage"),
@@ -210,47 +214,88 @@ def check_statuses(checks):
     checks.expect(f"again, where nothing can be printed: {done.stderr}", done.returncode == 207)
 
 
-def check_building(checks):
+def check_headers(checks):
+    """Which files a C file includes, and whether that takes the C library."""
     for number, (files, with_library) in enumerate(HEADERS):
         folder = checks.folder / f"again headers {number}"
-        folder.mkdir()
         for name, text in files.items():
+            (folder / name).parent.mkdir(parents=True, exist_ok=True)
             (folder / name).write_text(text)
-        found = building.Building(folder / "a.c", [])
-        checks.expect(f"of {files}: --libc is {with_library}, and all files are found",
-                      bool(found.options) == with_library and len(found.files) == len(files))
+        for words, wanted in (([], with_library), (["--no-libc", "-DX"], False), (["--libc"], False)):
+            found = building.Building(folder / "a.c", words)
+            checks.expect(f"of {files}, {words}: --libc is added, {wanted}, and all files are found",
+                          bool(found.options) == wanted and len(found.files) == len(files)
+                          and "--no-libc" not in found.words)
+
+
+class Source:
+    """A folder with a C file, which returns the number that a header or a word has."""
+
+    def __init__(self, checks):
+        self.checks, self.folder = checks, checks.folder / "again building"
+        shutil.rmtree(self.folder, ignore_errors=True)
+        self.folder.mkdir()
+        self.file, self.header, self.data = (self.folder / name for name in ("code.c", "code.h", "data.in"))
+        self.kept = self.folder / ".code.c.again"
+        self.file.write_text(SOURCE)
+        self.header.write_text("#ifndef CODE\n#define CODE 1\n#endif\n")
+        self.data.write_bytes(b"text")
+
+    def executables(self):
+        return {file.stat().st_ino for file in self.kept.glob("guest*.elf")}
+
+    def expect(self, what, wanted, is_built, *words):
+        """One call, with a status, which builds the guest or doesn't."""
+        before = self.executables()
+        status, printed, _, said = again(self.file, self.data, *words)
+        right = status == wanted and printed == (b"text" if wanted < 200 else b"")
+        right = right and bool(self.executables() - before) == is_built
+        self.checks.expect(f"again, {what}: {status} {said}", right)
+
+
+def check_building(checks):
     if not (shutil.which("clang") and shutil.which("ld.lld")):
         print("skipped: building by tools/again, since there is no clang with lld")
         return
-    folder = checks.folder / "again building"
-    folder.mkdir()
-    source, header, data = folder / "code.c", folder / "code.h", folder / "data.in"
-    executable = folder / ".code.c.again/guest.elf"
+    source = Source(checks)
+    source.expect("where nothing is built", 1, True)
+    os.utime(source.file)
+    source.expect("where nothing has changed", 1, False)
+    source.header.write_text(source.header.read_text().replace("1", "2"))
+    source.expect("where a header has changed", 2, True)
+    source.expect("where the words are others", 3, True, "--build", "-DCODE=3 --march rv32im")
+    source.expect("with one word that begins with a dash", 4, True, "--build", "-DCODE=4")
+    source.expect("with the words that were before", 3, False, "--build", "-DCODE=3 --march rv32im")
+    source.expect("without words again", 2, False)
+    checks.expect("again keeps a guest and a memo for each of the words",
+                  [len(list(source.kept.glob(name))) for name in ("guest*", "built*", "*.memo")] == [3, 3, 3])
+    check_mended(source)
 
-    def expect(what, wanted, is_built, *words):
-        before = executable.stat().st_ino if executable.exists() else None
-        status, printed, _, said = again(source, data, *words)
-        right = status == wanted and printed == (b"text" if wanted < 200 else b"")
-        right = right and (executable.stat().st_ino != before) == is_built
-        checks.expect(f"again, {what}: {status} {said}", right)
 
-    source.write_text(SOURCE)
-    header.write_text("#ifndef CODE\n#define CODE 1\n#endif\n")
-    data.write_bytes(b"text")
-    expect("where nothing is built", 1, True)
-    os.utime(source)
-    expect("where nothing has changed", 1, False)
-    header.write_text(header.read_text().replace("1", "2"))
-    expect("where a header has changed", 2, True)
-    expect("where the words are others", 3, True, "--build", "-DCODE=3 --march rv32im")
+def check_mended(source):
+    """What is damaged is built anew; what the compiler refuses leaves what was there."""
+    executable = source.kept / "guest.elf"
     executable.write_bytes(executable.read_bytes()[:-1])
-    expect("where the executable is damaged", 3, True, "--build", "-DCODE=3 --march rv32im")
-    source.write_text("no C\n" + SOURCE)
-    expect("where the compiler refuses it", 214, False)
-    source.write_text(SOURCE)
-    expect("where it is as before", 3, False, "--build", "-DCODE=3 --march rv32im")
-    (folder / ".code.c.again/built").write_bytes(b"\xff")
-    expect("where the notes are damaged", 2, True)
+    source.expect("where the executable is damaged", 2, True)
+    source.file.write_text("no C\n" + SOURCE)
+    source.expect("where the compiler refuses it", 214, False)
+    source.file.write_text(SOURCE)
+    source.expect("where it is as before", 2, False)
+    (source.kept / "built").write_bytes(b"\xff")
+    source.expect("where the notes are damaged", 2, True)
+
+
+def check_other_words(checks):
+    """Calls by other words, side by side, each of which runs its own program."""
+    if not (shutil.which("clang") and shutil.which("ld.lld")):
+        return
+    source = Source(checks)
+    for turn in range(3):
+        started = [subprocess.Popen([TOOL, source.file, source.data, "--build", f"-DCODE={code} -DTURN={turn}"],
+                                    stdin=subprocess.DEVNULL, stdout=subprocess.DEVNULL, stderr=subprocess.DEVNULL)
+                   for code in (5, 6, 7)]
+        ends = [one.wait(SECONDS) for one in started]
+        checks.expect(f"again, by three words at once, {turn}: {ends}", ends == [5, 6, 7])
 
 
 def check_killed(checks):
@@ -327,7 +372,9 @@ def check(checks):
     check_largest(checks)
     check_terminal(checks)
     check_statuses(checks)
+    check_headers(checks)
     check_building(checks)
+    check_other_words(checks)
     check_killed(checks)
     check_at_once(checks)
     check_watch(checks)
