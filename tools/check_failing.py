@@ -53,8 +53,8 @@ class Place:
         empty = EXAMPLES / "empty"
         yield from ((2, *words) for words in (
             ("report", self.reports), ("schedule", self.reports, 0), ("edits", *PAIR[:2]),
-            ("check-edits", PAIR[2], 5000), ("verify", *PAIR, self.reports), ("memo", self.memo), ("why", self.memo, PAIR[2]), ("races", self.memo),
-            ("explore", PAIR[0], PAIR[1], "--tries", 3), ("explain", "end spent"), ("timeline", self.reports)))
+            ("check-edits", PAIR[2], 5000), ("verify", *PAIR, self.reports), ("memo", self.memo),
+            ("why", self.memo, PAIR[2]), ("races", self.memo), ("explore", PAIR[0], PAIR[1], "--tries", 3), ("explain", "end spent"), ("timeline", self.reports)))
         yield 207, "run", self.folder / "hi.elf", empty
         yield 207, "again", self.folder / "hi.elf", empty
 

@@ -72,6 +72,26 @@ def hiding():
     return []
 
 
+def named_examples(text):
+    """The files of examples/ that a document names, but for the scripts that check others."""
+    for name in re.findall(r"\bexamples/[\w./-]*\w(?:\.\{[\w,]+\}[\w.]*\w|\.\{[\w,]+\})?", text):
+        before, brace, rest = name.partition("{")
+        many, _, behind = rest.partition("}")
+        yield from (f"{before}{one}{behind}" for one in many.split(",") if not name.endswith("/check"))
+
+
+def check_examples(checks, place):
+    """What the documents name is there, and as it is here."""
+    documents = place.prefix / "share/doc/ithreads"
+    for name in ("README.md", "docs/GUESTS.md", "tools/README.md", "guest/README.md"):
+        named = set(named_examples((documents / name).read_text()))
+        missing = sorted(one for one in named if not (documents / one).exists())
+        checks.expect(f"the examples that {name} names, {len(named)}, but for {missing}", named and not missing)
+    for name in ("pair.elf", "guest/words.in", "posix/make-keys"):
+        same = (documents / "examples" / name).read_bytes() == (EXAMPLES / name).read_bytes()
+        checks.expect(f"examples/{name} is as it is here", same)
+
+
 def check_files(checks, place):
     """The list, links that lead somewhere, and texts that name nothing of the repository."""
     checks.expect(f"the list has the files: {len(place.files())}", place.listed() == place.files())
@@ -209,6 +229,20 @@ def check_zsh(checks, place):
         checks.expect(f"zsh completes `{begun}`: {status} {said} {told!r}", all(word in told for word in wanted))
 
 
+def check_stopped(checks, place):
+    """What an installation that was stopped has put in place can be removed."""
+    stopped = Place(checks, checks.folder / "stopped")
+    (stopped.prefix / "share").mkdir(parents=True)
+    (stopped.prefix / "share/man").write_text("no folder")
+    for words in ((), ("--uninstall",)):
+        status, _, said = tool("install", "--prefix", stopped.prefix, *words)
+        wanted, part = (1, "share/man") if not words else (0, "")
+        checks.expect(f"install {words}, where a file stands in the way: {status} {said}",
+                      status == wanted and part in said and "Traceback" not in said)
+        (stopped.prefix / "share/man").unlink(missing_ok=True)
+    checks.expect(f"nothing is left of it: {stopped.files()}", not stopped.files())
+
+
 def check_removal(checks, place):
     """Installing anew removes what is no longer part of it; another list is refused; what is removed is gone."""
     home = place.prefix / "lib/ithreads"
@@ -220,10 +254,13 @@ def check_removal(checks, place):
     checks.expect(f"it is installed anew: {status} {said}",
                   status == 0 and place.files() == sorted([*before, "bin/own"]))
     kept = (home / "files").read_text()
-    for name in ("../outside", "/etc/passwd"):
+    for name in ("../outside", "/etc/passwd", "", "a\0b"):
         (home / "files").write_text(f"{name}\n")
         status, _, said = tool("install", "--uninstall", "--prefix", place.prefix)
-        checks.expect(f"a list with {name}: {status} {said}", status == 1 and name in said)
+        checks.expect(f"a list with {name!r}: {status} {said}", status == 1 and repr(name) in said)
+    (home / "files").write_bytes(b"lib/ithreads/\xff\nbin\n")
+    status, _, said = tool("install", "--uninstall", "--prefix", place.prefix)
+    checks.expect(f"a list with bytes and a folder: {status} {said}", status == 1 and "/bin: Is a directory" in said)
     (home / "files").write_text(kept)
     status, _, said = tool("install", "--uninstall", "--prefix", place.prefix)
     checks.expect(f"it is removed, {place.files()}: {status} {said}", status == 0 and place.files() == ["bin/own"])
@@ -269,6 +306,8 @@ def check(checks):
     if not checks.expect(f"it is installed: {status} {said}", status == 0 and not said):
         return
     commands, files = check_files(checks, place), place.files()
+    check_examples(checks, place)
+    check_stopped(checks, place)
     check_commands(checks, place, commands)
     check_work(checks, place)
     check_manual(checks, place, commands)
