@@ -2,21 +2,27 @@
 
 Copies of the script, of tools/launch and of tools/crates.bash stand in a folder of their own beside crates.txt. It says
 of each crate that it is proved, and how many are of how many: that number is found here in another way. If building
-fails it says so, the last lines of `rt ci` are shown, and the status is 125; so it is if there is no `rt`.
+fails it says so, the last lines of `rt ci` are shown, and the status is 125; so it is if there is no `rt`, or
+ITHREADS_NO_BUILD is set. SIGTERM and SIGINT end `rt` too, and leave nothing. If a source is newer than the program, a
+line says so, and the program runs.
 """
 import os
 import pathlib
 import re
 import shutil
+import signal
 import subprocess
+import time
 
-from checking import ROOT, SECONDS
+from checking import ROOT, SECONDS, is_gone
 
-# What `rt` is here: it writes down its words and crates.txt, prints the lines of a file, and makes the program if it is to.
+# What `rt` is here: it writes down its words and crates.txt, prints the lines of a file, waits if it is to, and makes the
+# program if it is to.
 FAKE = """#!/bin/sh
 echo "$*" >>"$FAKE/words"
 cat crates.txt >"$FAKE/asked"
 cat "$FAKE/lines"
+[ ! -f "$FAKE/waits" ] || { echo $$ >"$FAKE/pid"; sleep 60; }
 [ -f "$FAKE/program" ] || exit 1
 mkdir -p crates/ithreads_cli/out && cp "$FAKE/program" crates/ithreads_cli/out/ithreads_cli
 """
@@ -45,8 +51,8 @@ def crates_below():
     return sorted(found)
 
 
-def tried(checks, what, lines, made, path=None):
-    """The script in its folder: its status, what was printed, the lines on standard error, and the words of `rt`."""
+def place_of(checks, what, lines, made):
+    """A folder with the script and an `rt`, which prints lines and may make the program."""
     place = checks.folder / what.replace(" ", "-")
     (place / "crates/ithreads_cli").mkdir(parents=True)
     (place / "tools").mkdir()
@@ -55,18 +61,27 @@ def tried(checks, what, lines, made, path=None):
     for name, text in [("rt", FAKE), ("lines", lines), ("words", ""), *([("program", PROGRAM)] if made else [])]:
         (place / name).write_text(text)
         (place / name).chmod(0o755)
-    path = f"{place}:{os.environ['PATH']}" if path is None else path
+    return place
+
+
+def around(place, **more):
+    """The environment of a call there."""
+    return {**os.environ, "PATH": f"{place}:{os.environ['PATH']}", "FAKE": str(place), "GLIBC_TUNABLES": TUNABLE, **more}
+
+
+def called(place, **more):
+    """The script in its folder: its status, what was printed, and the lines on standard error."""
     how = {"stdin": subprocess.DEVNULL, "capture_output": True, "text": True, "timeout": SECONDS, "check": False}
-    where = {**os.environ, "PATH": path, "FAKE": str(place), "GLIBC_TUNABLES": TUNABLE}
-    done = subprocess.run([place / "ithreads", "show", "two words"], env=where, **how)
+    done = subprocess.run([place / "ithreads", "show", "two words"], env=around(place, **more), **how)
     said = [re.sub(r", [0-9]+ s\)$", ")", line) for line in done.stderr.split("\n")]
-    return done.returncode, done.stdout, said, place
+    return done.returncode, done.stdout, said
 
 
 def check_built(checks, what, lines, wanted):
     """Between the first two lines and the last are the wanted ones; then the program has the words, and the C library is
     asked for one heap of large pages, and for what the caller asks it."""
-    status, printed, said, place = tried(checks, what, lines, True)
+    place = place_of(checks, what, lines, True)
+    status, printed, said = called(place)
     wanted_of_it = f"program show two words\nglibc.malloc.hugetlb=1:glibc.malloc.arena_max=1:{TUNABLE}\n"
     checks.expect(f"{what}: the program runs: {status} {printed}", (status, printed) == (7, wanted_of_it))
     checks.expect(f"{what}: the first line has the number of crates: {said[0]}",
@@ -81,7 +96,7 @@ def check_built(checks, what, lines, wanted):
 
 def check_refused(checks, lines, wanted):
     """The lines of the crates before it, the last that `rt ci` printed, and that building failed."""
-    status, printed, said, _ = tried(checks, "one is refused", lines, False)
+    status, printed, said = called(place_of(checks, "one is refused", lines, False))
     checks.expect(f"one is refused: {status} {printed}", (status, printed) == (125, ""))
     shown = lines.splitlines()[-20:]
     checks.expect(f"one is refused: {said[2:-2]}", said[2:-2] == wanted + shown)
@@ -103,6 +118,8 @@ def check(checks):
     failed = f"{many - 1} passed, 1 failed\n"
     check_refused(checks, "".join(each[:5]) + REFUSED.format(names[5]) + failed, wanted[:5])
     check_without(checks)
+    check_age(checks)
+    check_stopped(checks, "".join(each[:3]))
 
 
 def check_without(checks):
@@ -111,6 +128,49 @@ def check_without(checks):
     tools.mkdir()
     for name in ("bash", "env", "readlink", "dirname"):
         (tools / name).symlink_to(pathlib.Path(shutil.which(name)).resolve())
-    status, printed, said, _ = tried(checks, "no rt", "", True, str(tools))
-    checks.expect(f"no rt: {status} {printed}", (status, printed) == (125, ""))
-    checks.expect(f"no rt: {said}", said[0].endswith("no 'rt' to build it") and said[1:] == [""])
+    for more, end in (({"PATH": str(tools)}, "no 'rt' to build it"),
+                      ({"ITHREADS_NO_BUILD": "1"}, "ITHREADS_NO_BUILD is set")):
+        what = f"not to be built by {next(iter(more))}"
+        place = place_of(checks, what, "", True)
+        status, printed, said = called(place, **more)
+        checks.expect(f"{what}: {status} {printed} {said}",
+                      (status, printed) == (125, "") and said[0].endswith(end) and said[1:] == [""])
+        checks.expect(f"{what}: rt isn't asked", not (place / "words").read_text())
+
+
+def check_age(checks):
+    """A program that is there, and sources that are older or newer."""
+    place = place_of(checks, "there", "", True)
+    program, source = place / "crates/ithreads_cli/out/ithreads_cli", place / "crates/ithreads_cli/src/main.rt"
+    for file, text in ((program, PROGRAM), (source, ""), (place / "crates/ithreads_cli/specs/Main.antt", "")):
+        file.parent.mkdir()
+        file.write_text(text)
+    program.chmod(0o755)
+    for seconds, wanted in ((-9, []), (9, ["ithreads: crates/ithreads_cli/src/main.rt is newer than the program: remove "
+                                           "crates/ithreads_cli/out/ithreads_cli to have it built anew"])):
+        at = program.stat().st_mtime + seconds
+        os.utime(source, (at, at))
+        status, printed, said = called(place)
+        right = status == 7 and printed.startswith("program show") and said == [*wanted, ""]
+        checks.expect(f"a source of {seconds} s after the program: {status} {printed} {said}", right)
+
+
+def check_stopped(checks, lines):
+    """What is left where a signal ends the script while `rt` runs."""
+    place = place_of(checks, "stopped", lines, True)
+    temporary, pid = place / "temporary", place / "pid"
+    temporary.mkdir()
+    (place / "waits").touch()
+    for how, status in ((signal.SIGTERM, 143), (signal.SIGINT, 130), (signal.SIGHUP, 143)):
+        started = subprocess.Popen([place / "ithreads", "show"], stdin=subprocess.DEVNULL, stderr=subprocess.PIPE,
+                                   env=around(place, TMPDIR=str(temporary)))
+        end = time.monotonic() + SECONDS
+        while not (pid.exists() and pid.read_text()) and time.monotonic() < end:
+            time.sleep(0.02)
+        started.send_signal(how)
+        said = started.communicate(timeout=SECONDS)[1].decode()
+        is_ended = is_gone(pid.read_text().strip())
+        left = [*temporary.iterdir(), *(place / "crates").glob("*/out/*")]
+        checks.expect(f"stopped by {how.name}: {started.returncode} {is_ended} {left} {said}",
+                      started.returncode == status and is_ended and not left and "Terminated" not in said)
+        pid.unlink()

@@ -6,13 +6,12 @@
   - A word may name standard input, or what a shell gives by `<(..)`; names may have bytes that are no UTF-8.
 """
 import os
-import pathlib
 import shutil
 import signal
 import subprocess
 import time
 
-from checking import EXAMPLES, ROOT, SECONDS, program, ran_whole
+from checking import EXAMPLES, ROOT, SECONDS, is_gone, program, ran_whole
 
 PAIR = [EXAMPLES / f"pair.{word}" for word in ("elf", "in", "edits")]
 SPINS = "#!/bin/sh\necho $$ >{}\nexec sleep 60\n"  # in place of the program
@@ -113,10 +112,6 @@ def check_unbuilt(place):
     place.expect("memo --audit of standard input", got, 2, "usage")
 
 
-def is_there(process):
-    return pathlib.Path(f"/proc/{process}").exists()
-
-
 def ended(place, how, name, words):
     """The status, standard error, and whether the program is gone, of a tool that a signal ends while that runs."""
     place.pid.unlink(missing_ok=True)
@@ -128,7 +123,7 @@ def ended(place, how, name, words):
         time.sleep(0.02)
     started.send_signal(how)
     said = started.communicate(timeout=SECONDS)[1].decode()
-    return started.returncode, said, not is_there(place.pid.read_text().strip())
+    return started.returncode, said, is_gone(place.pid.read_text().strip())
 
 
 def check_signals(place):

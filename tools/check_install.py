@@ -30,6 +30,7 @@ COMPLETED = [  # words that are begun, and what bash proposes in a folder with m
     ("ithreads --workers 1 re", ["rerun", "replay"]), ("ithreads run pair.e", ["pair.elf", "pair.edits"]),
     ("ithreads-why --s", ["--symbols", "--summary"]), ("ithreads-why me", ["memo"]),
     ("ithreads-build --march ", ["rv32i", "rv32im"]), ("ithreads-build --l", ["--libc"]),
+    ("ithreads-again --", ["--build", "--help", "--watch"]),
     ("ithreads-timeline --h", ["--html", "--help"]), ("ithreads help ", []),
 ]
 IN_ZSH = [("ithreads rep", ["replay"]), ("ithreads run --rea", ["--reach"]), ("ithreads show mem", ["memo"]),
@@ -193,7 +194,7 @@ def commands_of_program():
 
 
 def options_in(told):
-    return set(re.findall(r"^ *(?:-[a-zA-Z], )?(--[a-z-]*[a-z])", told, flags=re.M))
+    return set(re.findall(r"^ +(?:-[a-zA-Z], )?(--[a-z-]*[a-z])", told, flags=re.M))
 
 
 def check_bash(checks, place):

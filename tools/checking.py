@@ -4,6 +4,7 @@ import pathlib
 import pty
 import random
 import subprocess
+import time
 
 ROOT = pathlib.Path(__file__).resolve().parent.parent
 EXAMPLES = ROOT / "examples"
@@ -64,6 +65,19 @@ def is_built(name):
     """Whether a proved program is there, or can be had: where it isn't, it is proved and built first, however long that takes."""
     quiet = {"stdin": subprocess.DEVNULL, "stdout": subprocess.DEVNULL, "stderr": subprocess.DEVNULL}
     return subprocess.run([str(ROOT / name), "--help"], check=False, **quiet).returncode != 125
+
+
+def is_gone(process):
+    """Whether a process has ended, or does so within some seconds."""
+    end = time.monotonic() + 5
+    while True:
+        try:
+            state = pathlib.Path(f"/proc/{process}/stat").read_text().rpartition(")")[2].split()[0]
+        except OSError:
+            return True
+        if state == "Z" or time.monotonic() > end:
+            return state == "Z"
+        time.sleep(0.02)
 
 
 def program(*words):

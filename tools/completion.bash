@@ -1,12 +1,14 @@
 # Completion for bash, of `ithreads` and of the tools beside it: commands, options and names of files. Which there are is
-# read from what each says with --help, once in a shell.
+# read from what each says with --help, once in a shell. A program that isn't built stays so.
 
 declare -gA _ithreads_said
 
 # _ithreads_help WORDS..: what a command says with --help, in $help
 _ithreads_help() {
-    [ -n "${_ithreads_said[$*]-}" ] || _ithreads_said[$*]=$("$@" --help 2>&1 </dev/null)
-    help=${_ithreads_said[$*]}
+    help=${_ithreads_said[$*]-}
+    [ -z "$help" ] || return
+    help=$(ITHREADS_NO_BUILD=1 "$@" --help 2>&1 </dev/null)
+    [ $? -eq 125 ] || _ithreads_said[$*]=$help
 }
 
 # _ithreads_command: the command of `ithreads` among the words before the one that is completed, in $command
@@ -50,7 +52,7 @@ _ithreads() {
     fi
     if [[ $word == -* ]]; then
         _ithreads_help "${called[@]}"
-        mapfile -t COMPREPLY < <(compgen -W "$(sed -n 's/^ *\(-[a-zA-Z], \)\{0,1\}\(--[a-z-]*[a-z]\).*/\2/p' <<<"$help")" -- "$word")
+        mapfile -t COMPREPLY < <(compgen -W "$(sed -n 's/^  *\(-[a-zA-Z], \)\{0,1\}\(--[a-z-]*[a-z]\).*/\2/p' <<<"$help")" -- "$word")
     elif [ "$command" != gen ]; then
         mapfile -t COMPREPLY < <(compgen -f -- "$word")
     fi

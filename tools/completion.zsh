@@ -1,8 +1,9 @@
 #compdef ithreads -P ithreads-*
 # Completion for zsh, of `ithreads` and of the tools beside it: commands, options and names of files. Which there are is
-# read from what each says with --help.
+# read from what each says with --help. A program that isn't built stays so.
 
 local -a called about
+local -x ITHREADS_NO_BUILD=1
 local command k
 called=($words[1])
 case $words[CURRENT-1] in
@@ -28,7 +29,7 @@ if [[ $words[1]:t == ithreads ]]; then
     called+=($command)
 fi
 if [[ $words[CURRENT] == -* ]]; then
-    about=(${(f)"$($called --help 2>&1 </dev/null | sed -n 's/^ *\(-[a-zA-Z], \)\{0,1\}\(--[a-z-]*[a-z]\).*/\2/p')"})
+    about=(${(f)"$($called --help 2>&1 </dev/null | sed -n 's/^  *\(-[a-zA-Z], \)\{0,1\}\(--[a-z-]*[a-z]\).*/\2/p')"})
     compadd -- $about
 elif [[ $command != gen ]]; then
     _files
