@@ -62,7 +62,19 @@ SAID_BY_OTHERS = [
     "build: there is no clang (package clang)", "build: --wrong is not understood",
     "tools/explore: 100 tries take some 12 s",
     "build: there is no picolibc (package picolibc-riscv64-unknown-elf)", "ithreads: built in 3 s",
-    "build: there is no objdump for --notes (packages binutils-riscv64-unknown-elf, llvm)",
+    "build: there is no llvm-objdump for --notes (package llvm)", "build: a.cpp: a guest is built of files of C",
+    "build: a.in is there and is no executable: remove it first, or give another OUT", "build: a FILE.c is wanted",
+    "build: --march takes rv32i or rv32im", "build: b.c stands behind a.elf, and OUT is the last word",
+    "build: a and b are two names of OUT", "build: --args takes one word, in which each quote is closed",
+    "build: --args, --time, --yield-every and --unbuffered are of the C library: give --libc too",
+    "tools/memo: Digest (at 8140: digest: it is another)",
+    "ithreads-memo: Image NotElf (at 12: executable: it isn't taken)",
+    "tools/memo: step 3, of thread 1, number 0, is false:", "tools/install: /usr/local/bin: Not a directory",
+    "tools/install: /usr/local/bin: Permission denied", "tools/verify: No usable temporary directory found in ['/tmp']",
+    "tools/run: ithreads ended with status 125: the program isn't built, and can't be",
+    "tools/verify: round 0 can't be replayed: status 125: the program isn't built, and can't be",
+    "ithreads: the program is not built, and ITHREADS_NO_BUILD is set",
+    "ithreads: crates/a/src/lib.rt is newer than the program: remove crates/b/out/b to have it built anew",
     "ithreads: proves the program's 40 crates and builds it, which takes 20 to 50 minutes on four processors",
     "ithreads: tools/try runs it before that, without a proof", "trace: proved rv_step (3 of 40, 17 s)",
     "ithreads: 3 of 40 crates proved, 47 s", "ithreads: the sources can't be copied to /tmp/x",
@@ -207,8 +219,9 @@ def check_guests(checks):
     status, told = explained(("--guest", *pair, EXAMPLES / "pair.edits"), report)
     right = status == 0 and told.count("\n") == 1 and "exit code 0" in told
     checks.expect(f"two rounds that exit: {status} {told}", right)
-    status, told = explained(("--guest", *pair), report)
-    checks.expect(f"two rounds and one input: {status} {told}", status == 2)
+    for words in (("--guest", *pair), ("end spent", "--guest", *pair)):  # one input alone, and a line
+        status, told = explained(words, report)
+        checks.expect(f"two rounds, {words}: {status} {told}", status == 2)
 
 
 def check_built(checks):

@@ -5,6 +5,7 @@
   - Each schedule that is printed is one that `ithreads replay` takes, with the same end and output; in a random order
     of guests that are made to order, with the same memory too.
   - The groups hold all tries; where two part, they have the same entries before that, and others there.
+  - With --into no older file stays beside those that are written.
   - One seed gives one answer, whatever the number of processes, and another seed another.
   - tools/README.md shows what is found of examples/schedules: a deadlock and a race.
 """
@@ -101,6 +102,19 @@ def check_groups(checks):
     checks.expect(f"explore with one group: {status} {printed}", status == 0 and groups_of(printed) == [(3, "exit 0")])
 
 
+def check_into(checks):
+    """Files of an earlier call that would stay beside those of this one."""
+    words, into = (EXAMPLES / "hi.elf", EXAMPLES / "empty", "--tries", 3, "--into"), checks.folder / "into"
+    for name, wanted in (("into.1", 0), ("into.two", 0), ("into.1.other", 2), ("into.2", 2)):
+        kept = checks.file(name, b"before")
+        status, _, said = tool("explore", *words, into)
+        written = (checks.folder / "into.1").read_bytes() != b"before"
+        checks.expect(f"explore --into, where {name} is there: {status} {said}",
+                      status == wanted and (written or name != "into.1") and (f"{kept} is there" in said) == (wanted == 2))
+        kept.unlink()
+    (checks.folder / "into.1").unlink(missing_ok=True)
+
+
 def check_refused(checks):
     empty = EXAMPLES / "empty"
     for words, begun in (((), "usage"), ((EXAMPLES / "none", empty), "can't be read"),
@@ -130,5 +144,6 @@ def check(checks):
     check_runs(checks)
     check_orders(checks)
     check_groups(checks)
+    check_into(checks)
     check_refused(checks)
     check_guide(checks)

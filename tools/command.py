@@ -95,8 +95,8 @@ class Command:
             self.refuse(2, why)
         made = made if first == 0 or not lists else made[1:]
         if len(made) < count or len(made) > count and not may_lack:
-            there_are = f"there {'is' if count == 1 else 'are'} {count} round{'s' * (count != 1)}"
-            self.refuse(2, f"{there_are}, and with {len(lists)} edit lists {len(made)} inputs")
+            rounds = "is 1 round" if count == 1 else f"are {count} rounds"
+            self.refuse(2, f"there {rounds}, and with {len(lists)} edit lists {len(made)} inputs")
         return made
 
     def refuse_others(self, status, name, pattern, written):

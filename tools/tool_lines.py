@@ -79,9 +79,9 @@ LINES = [
     (r"the shortest list has .*", "so much differs that one list can't hold it: give --into NAME, and give all lists to "
                                   "one `ithreads run` or `rerun`; or run the guest on the new input from scratch"),
     (r"(.*) is there, and is none of the \d+ that are to be written: .*",
-     "`NAME.*.edits` would name more lists than are written: remove {1}, or give another NAME"),
-    (r"there are (\d+) rounds, and with (\d+) edit lists .*",
-     f"the reports have {{1}} rounds, and each edit list makes one. {AS_RUN}"),
+     "more files would have NAME than are written now: remove {1}, or give another NAME"),
+    (r"there (?:is |are )?(\d+(?: rounds?)?), and with (\d+) edit lists .*",
+     f"the reports have {{1}}, and each edit list makes one. {AS_RUN}"),
     (r"no line of the program is among these",
      "give a line that `ithreads`, ./trace or a tool printed on standard error, or the line `end` of a report, to the "
      "letter"),
@@ -93,6 +93,9 @@ LINES = [
                                          "--symbols; or make the memo anew by this guest"),
     (r"a line isn't understood: .*", "the tool and the program are of different versions: install both again"),
     (r"\w+ ended with status 10: (.*) \(of a run with .*", of_program),
+    (r".*\bstatus 125: .*",
+     "the proved program isn't built, and building it failed; lines above this one say why. tools/try runs it "
+     "without a proof"),
     (r"\w+ ended with status (\d+): (.*)", ended),
     (r"round (\d+) can't be replayed: status \d+: (.*)", lambda _, line: of_program(line)),
     (r"what is printed by the replay of round \d+ isn't understood: .*",
@@ -120,17 +123,37 @@ LINES = [
      "{1} was changed, and nothing was removed: remove by hand what it lists below its own folder"),
     (r"(.*): (?:Permission denied|Read-only file system|No space left on device)",
      "{1} can't be written: be root, give a --prefix of your own, such as ~/.local, or make room"),
+    (r"(.*): (?:Is a directory|Not a directory|File exists|Directory not empty)",
+     "{1} is in the way, or what is above it is no folder: move it, or give another --prefix"),
+    (r"No usable temporary directory found in .*",
+     "the folder for temporary files is full or may not be written to: set TMPDIR to one of your own"),
+    (r"((?:Short|Magic|Version|Digest|Limit|Field|Old|Image)\b.*) \(at \d+: .*\)",
+     lambda line: of_program(f"memo: {line}")),
+    (r"step (\d+), of thread \d+, number \d+, is false:.*",
+     f"record {{1}} of the memo isn't what its step does, and the lines behind this one say what differs; "
+     f"{sentences.AGAIN}"),
 ]
 OF_LAUNCH = [
     (r"proves the program's \d+ crates .*|tools/try runs it .*|proved \w+ \(.*|\d+ of \d+ crates proved, .*|.*: another run "
      r"on this machine .*", HOW_FAR),
     (r"built in \d+ s", "the program is proved and built; later calls start at once"),
+    (r".* is newer than the program: remove (.*) to have it built anew",
+     "the source has changed since the program was built, and the old program runs: remove {1}, and the next call "
+     "proves and builds it anew"),
+    (r"the program is not built, and ITHREADS_NO_BUILD is set",
+     "unset ITHREADS_NO_BUILD to have the program proved and built"),
     (r"the sources can't be copied to (.*)", "{1}, for temporary files, is full or may not be written to: set TMPDIR"),
     (r"(.*) isn't there: install ithreads again", "a file of the installation was removed: install it again"),
 ]
 OF_BUILD = [
     (r"there is no .* \((?:package|packages) (.*)\)", "install it: `apt-get install` with {1}, as root"),
-    (r".* is not understood", "the words of guest/build aren't understood; guest/build --help shows them"),
+    (r".* is not understood|--[a-z-]+(?: takes |,).*|.* stands behind .*, and OUT .*|.* are two names of OUT"
+     r"|a FILE\.c is wanted",
+     "the words of guest/build aren't understood; guest/build --help shows them"),
+    (r"(.*) is there and is no executable: .*",
+     "guest/build would write over {1}, which it hasn't made: give another OUT, as the last word, or remove it"),
+    (r"(.*): a guest is built of files of C",
+     "{1} isn't C: guest/build takes files of C alone, no C++, objects or libraries"),
     (r"not there: (.*?)[.,]?", "a guest has no {1}; the lines behind this one say what to take instead"),
     (r"main is there twice\..*", "two of the C files have a main, and a program has one: give the files of one program"),
     (r"(\S+) is there twice\..*", "{1} is in two of the C files, or the C library of guests has its own, which a program "
