@@ -4,6 +4,7 @@
 #include <pthread.h>
 #include <signal.h>
 #include <stdio.h>
+#include <threads.h>
 #include <time.h>
 #include <unistd.h>
 
@@ -36,6 +37,15 @@ static void *sleeps_on(void *unused)
     return unused;
 }
 
+static void *sleeps_by_c11(void *unused)
+{
+    struct timespec length = { 1000, 0 }, none = { 0, 1000000000 }, rest = { 0, 0 };
+    int answer = thrd_sleep(&length, &rest);
+    printf("%d, caught %d, rest %d\n", answer, caught == SIGUSR1, rest.tv_sec > 0);
+    printf("no time: %d\n", thrd_sleep(&none, NULL) < -1);
+    return unused;
+}
+
 static void signalled(void *(*function)(void *))
 {
     pthread_t thread;
@@ -53,5 +63,6 @@ int main(void)
     sigaction(SIGUSR1, &action, NULL);
     signalled(sleeps);
     signalled(sleeps_on);
+    signalled(sleeps_by_c11);
     return 0;
 }

@@ -8,9 +8,12 @@ static int answered(int answer)
     return answer == 0 ? thrd_success : answer == ETIMEDOUT ? thrd_timedout : thrd_error;
 }
 
+/* C11, 7.26.5.7: -1 if a signal has ended it, and another negative number if it failed. */
 IT_REPLACEABLE int thrd_sleep(const struct timespec *length, struct timespec *rest)
 {
-    return nanosleep(length, rest) == 0 ? 0 : -2;
+    if (nanosleep(length, rest) == 0)
+        return 0;
+    return errno == EINTR ? -1 : -2;
 }
 
 IT_REPLACEABLE int mtx_timedlock(mtx_t *restrict mutex, const struct timespec *restrict time)

@@ -1,4 +1,4 @@
-/* The one user, whose number guest/lib/system.c says, and the one group. */
+/* The one user, whose number guest/lib/more/system.c says, and the one group. */
 #include <grp.h>
 #include <pwd.h>
 #include <string.h>
