@@ -79,10 +79,10 @@ SAID_BY_OTHERS = [
     "ithreads: tools/try runs it before that, without a proof", "trace: proved rv_step (3 of 40, 17 s)",
     "ithreads: 3 of 40 crates proved, 47 s", "ithreads: the sources can't be copied to /tmp/x",
     "ithreads: /usr/lib/ithreads/bin/ithreads_cli isn't there: install ithreads again",
-    "tools/report: reports: it stops being a report at byte 3: `round` is wanted, and there stands 'x'",
-    "tools/check-edits: a.edits line 3: BadLine: column 1: expected `set D H`, and there stands `x`",
+    "tools/report: reports: it stops being a report at byte 3: expected `round`, found 'x'",
+    "tools/check-edits: a.edits line 3: BadLine: column 1: expected `set D H`, found `x`",
     "tools/edits: a.edits line 3: OutOfRange: it writes up to byte 9, and the input has 3 bytes here",
-    "tools/timeline: why: line 2: a reason is wanted, and there stands `x`",
+    "tools/timeline: why: line 2: expected a reason, found `x`",
     "ithreads-why: error: the following arguments are required: MEMO, EDITS",
 ]
 LOST = b"""#include <stdio.h>

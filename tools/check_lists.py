@@ -334,7 +334,7 @@ def check_check_edits(checks):
         for _ in range(draw.choice([0, 1, 1, 1, 2])):
             text = damaged(draw, text)
         compare(checks, f"list {number}", text, length)
-    for text, wanted in ((b"set 0x10 00\n", "expected a decimal number (only the bytes are hexadecimal), and there stands `0x10"),
+    for text, wanted in ((b"set 0x10 00\n", "expected a decimal number (only the bytes are hexadecimal), found `0x10"),
                          (b"set 12.5 00\n", "expected one space"), (b"size 0x10\n", "expected a decimal number (")):
         status, _, said = tool("check-edits", checks.file("list", text), "100")
         checks.expect(f"check-edits says of {text}: {said}", status == 1 and wanted in said)

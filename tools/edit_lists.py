@@ -15,7 +15,7 @@ class BadLine(Exception):
 
     def __init__(self, line, place, wanted):
         there = f"`{shown(line[place:])}`" if place < len(line) else "the line's end"
-        super().__init__(f"column {place + 1}: expected {wanted}, and there stands {there}")
+        super().__init__(f"column {place + 1}: expected {wanted}, found {there}")
 
 
 @dataclass

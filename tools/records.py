@@ -9,9 +9,10 @@ from dataclasses import dataclass
 
 import memos
 import symbols
+from calls import THREADS
 from executables import PAGE
 
-STACKS, STACK = 0xD0000000, 0x10000
+LENGTH, INPUT, MOST_INPUT, STACKS, STACK = 0xC0000000, 0xC0001000, 0x100000, 0xD0000000, 0x10000
 SP = 2
 MOST_FRAMES = 16
 SAVE_RA, RAISE_SP = 0x00112023, 0x00010113  # sw ra, 0(sp), and addi sp, sp, 0
@@ -61,6 +62,24 @@ class Records:
         """A word of a stack; 0 where nothing was stored."""
         kept = self.stacks.get(address // PAGE)
         return int.from_bytes(kept[address % PAGE:address % PAGE + 4], "little") if kept else 0
+
+
+def beside(address):
+    """What an address is of that the executable doesn't have: the length, the input or a stack, and which byte of the
+    input, or whose stack."""
+    if LENGTH <= address < LENGTH + 4:
+        return "length", 0
+    if INPUT <= address < INPUT + MOST_INPUT:
+        return "input", address - INPUT
+    if STACKS <= address < STACKS + THREADS * STACK:
+        return "stack", (address - STACKS) // STACK
+    return None, 0
+
+
+def on_stack(address):
+    """Where on which stack an address is."""
+    thread, offset = divmod(address - STACKS, STACK)
+    return f"on the stack of thread {thread}, {STACK - offset} bytes below its top"
 
 
 def symbols_for(tool, name, elf):

@@ -20,7 +20,7 @@ class NotReports(Exception):
 
     def __init__(self, data, at, wanted):
         there = repr(data[at:at + 20])[1:] if at < len(data) else "the end"
-        super().__init__(f"it stops being a report at byte {at}: {wanted} is wanted, and there stands {there}")
+        super().__init__(f"it stops being a report at byte {at}: expected {wanted}, found {there}")
         self.at = at
 
 

@@ -160,7 +160,7 @@ LINES = [
     (r"too large (.*)", too_large),
     (r"schedule: token (\d+)",
      "word {1} of the schedule, counted from 0, is no thread number from 0 to 31. Of a report's line `schedule`, leave "
-     "the first word away: tools/schedule REPORTS N does it"),
+     "out the first word: tools/schedule REPORTS N does it"),
     (r"schedule: entry (\d+), thread (\d+): (.*)",
      "at entry {1}, counted from 0, the schedule lets thread {2} make a step, and {3}. The schedule is of another "
      "guest, another input or other limits"),

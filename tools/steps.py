@@ -93,7 +93,7 @@ def found_in(lines, first, pattern, what):
     for number, line in enumerate(lines, first):
         found = pattern.fullmatch(line)
         if not found:
-            raise Refused(number, f"{what} is wanted, and there stands `{line[:40]}`")
+            raise Refused(number, f"expected {what}, found `{line[:40]}`")
         yield number, found
 
 
@@ -201,7 +201,7 @@ class Rounds:
         """The races of the steps of a round."""
         lines, steps = lines_of(text), self.steps[number]
         if not RACES.fullmatch(lines[0]):
-            raise Refused(1, f"the number of races is wanted, and there stands `{lines[0][:40]}`")
+            raise Refused(1, f"expected the number of races, found `{lines[0][:40]}`")
         for line, found in found_in(lines[1:], 2, RACE, "a race"):
             first, second = map(int, found.group(1, 2))
             if not first < second < len(steps):
