@@ -53,7 +53,8 @@ class Place:
         yield from ((2, *words) for words in (
             ("report", self.reports), ("schedule", self.reports, 0), ("edits", *PAIR[:2]),
             ("check-edits", PAIR[2], 5000), ("verify", *PAIR, self.reports), ("memo", self.memo),
-            ("why", self.memo, PAIR[2]), ("races", self.memo), ("explore", PAIR[0], PAIR[1], "--tries", 3), ("explain", "end spent"), ("timeline", self.reports)))
+            ("why", self.memo, PAIR[2]), ("races", self.memo), ("explore", PAIR[0], PAIR[1], "--tries", 3),
+            ("explain", "end spent"), ("timeline", self.reports)))
         yield 207, "run", self.folder / "hi.elf", empty
         yield 207, "again", self.folder / "hi.elf", empty
 
@@ -94,6 +95,21 @@ def check_names(place):
         done = subprocess.run([ROOT / "tools/explain", *words], input=given, capture_output=True, check=False)
         right = done.returncode == 0 and b"there is no file " + name in done.stdout
         place.checks.expect(f"explain a line with such a name: {done}", right)
+
+
+def check_numbers(place):
+    """Numbers of more digits than Python takes."""
+    large = b"9" * 5000
+    for name, data in (("--why", b"why 4\nstep %b thread 0 number 0 none\n"),
+                       ("--races", b"races 1\nrace 0 %b page 00010000 rw\n"),
+                       ("--trace", b"step %b thread 0 number 0 count 3 exit(0) ends the run\nend exit 0\n")):
+        file = place.checks.file("large", data % large)
+        got = place.run('exec "$@"', ROOT / "tools/timeline", place.reports, name, file)
+        place.expect(f"timeline {name}, with a large number", got, 1, "expected ")
+    for line in (b"edits a line %b: BadLine" % large, b"edits a\0b line 1: BadLine", b"too large a\0b"):
+        done = subprocess.run([ROOT / "tools/explain"], input=line, capture_output=True, check=False)
+        checked = done.returncode == (1 if large in line else 0) and b"Traceback" not in done.stderr
+        place.checks.expect(f"explain {line[:60]}: {done.returncode} {done.stderr[-60:]}", checked)
 
 
 def check_unbuilt(place):
@@ -138,10 +154,25 @@ def check_signals(place):
             place.checks.expect(f"{name}, ended by {how.name}: {left} are left", not left)
 
 
+def check_processes(place):
+    """Ctrl-C reaches each process of tools/explore."""
+    words = [ROOT / "tools/explore", EXAMPLES / "guest/kmeans.elf", EXAMPLES / "guest/kmeans.in", "--jobs", "2"]
+    for how, status in ((signal.SIGINT, 130), (signal.SIGTERM, 143)):
+        started = subprocess.Popen(words, stdin=subprocess.DEVNULL, stdout=subprocess.DEVNULL, stderr=subprocess.PIPE,
+                                   start_new_session=True)
+        time.sleep(2)
+        os.killpg(started.pid, how)
+        said = started.communicate(timeout=SECONDS)[1].decode()
+        place.checks.expect(f"explore and its processes, ended by {how.name}: {started.returncode} {said}",
+                            started.returncode == status and "Traceback" not in said)
+
+
 def check(checks):
     place = Place(checks)
     check_printing(place)
     check_reading(place)
     check_names(place)
+    check_numbers(place)
     check_unbuilt(place)
     check_signals(place)
+    check_processes(place)

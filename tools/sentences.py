@@ -88,7 +88,7 @@ def too_large(name):
     try:
         with open(name, "rb") as file:
             begin, size = file.read(4), os.fstat(file.fileno()).st_size
-    except OSError:
+    except (OSError, ValueError):  # a name from a pipe may have any bytes
         begin, size = b"", None
     kind = {b"\x7fELF": "an executable", b"ITHM": "a memo"}.get(begin, "an input, an edit list or a schedule")
     has = f"{name} has {size:,} bytes" if size is not None else f"{name} is too long"
@@ -102,7 +102,7 @@ def bad_line(name, line):
     try:
         with open(name, "rb") as file:
             lines = file.read(MIB + 1).split(b"\n")
-    except OSError:
+    except (OSError, ValueError):
         lines = []
     there = lines[int(line) - 1] if len(lines) >= int(line) else b""
     said = f"line {line} of {name} is neither `set OFFSET HEX` nor `size LENGTH`"
@@ -144,7 +144,7 @@ LINES = [
      f"the memo was written before this machine had products and quotients, and its guest came to one; {AGAIN}"),
     (r"memo: Incoherent (\d+)",
      f"record {{1}} of the memo doesn't follow from those before it: another program wrote it; {AGAIN}"),
-    (r"edits (.*) line (\d+): BadLine", bad_line),
+    (r"edits (.*) line (\d{1,20}): BadLine", bad_line),
     (r"edits (.*) line (\d+): OutOfRange", out_of_range),
     (r"read (.*)", file_named),
     (r"write output", "what is printed can't be written: the disk is full, or the reader has closed the pipe"),

@@ -10,16 +10,22 @@ from dataclasses import dataclass, field
 import reports
 from calls import CALLS, CREATE, PUT
 
-ENTRY = re.compile(r"entry ([0-9]+) thread ([0-9]+) number ([0-9]+) end (call [0-9]+|trap [0-7]|fuel) count ([0-9]+)"
-                   r" reads (-|%s(?:,%s)*) writes (-|%s(?:,%s)*)" % (("[0-9a-f]{8}",) * 4))
-HEAD = re.compile(r"(elf|input|fuel|limit|entries) [0-9]+")
-STEP = re.compile(r"step ([0-9]+) thread ([0-9]+) number ([0-9]+) count ([0-9]+) (.*)")
-WAITS = re.compile(r" (waits for [^,]*(?:, with mutex [0-9]+)?(?:, held by thread [0-9]+(?: and thread [0-9]+)*)?)")
-WAKES = re.compile(r", wakes thread ([0-9]+) with ")
-BEGINS = re.compile(r"create\(.*\) = ([0-9]+), begins at ")
-REASON = re.compile(r"step ([0-9]+) thread ([0-9]+) number ([0-9]+) (none|register ([0-9]+) now [0-9]+ was [0-9]+|"
-                    r"page ([0-9a-f]{8}) at ([0-9]+) now [0-9]+ was [0-9]+ by (start|[0-9]+))")
-RACES, RACE = re.compile("races [0-9]+"), re.compile("race ([0-9]+) ([0-9]+) page ([0-9a-f]{8} [rw]{2})")
+
+def pattern(text):
+    """The pattern of a line, where # stands for a number, which has 20 digits at most, as one of 64 bits."""
+    return re.compile(text.replace("#", "[0-9]{1,20}"))
+
+
+ENTRY = pattern(r"entry (#) thread (#) number (#) end (call #|trap [0-7]|fuel) count (#)"
+                r" reads (-|%s(?:,%s)*) writes (-|%s(?:,%s)*)" % (("[0-9a-f]{8}",) * 4))
+HEAD = pattern(r"(elf|input|fuel|limit|entries) #")
+STEP = pattern(r"step (#) thread (#) number (#) count (#) (.*)")
+WAITS = pattern(r" (waits for [^,]*(?:, with mutex #)?(?:, held by thread #(?: and thread #)*)?)")
+WAKES = pattern(r", wakes thread (#) with ")
+BEGINS = pattern(r"create\(.*\) = (#), begins at ")
+REASON = pattern(r"step (#) thread (#) number (#) (none|register (#) now # was #|"
+                 r"page ([0-9a-f]{8}) at (#) now # was # by (start|#))")
+RACES, RACE = pattern("races #"), pattern("race (#) (#) page ([0-9a-f]{8} [rw]{2})")
 REASON_OR_NOTE = re.compile(REASON.pattern + "|    (?P<note>.*)")
 
 

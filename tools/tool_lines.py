@@ -73,7 +73,7 @@ LINES = [
      "the reports have rounds {3} to {4}: `run` counts from 0, and `rerun` from 1"),
     (r"(.*): the reports have no round (\d+)",
      "{1} is given for round {2}, which isn't among the reports: write another number before the colon of N:FILE"),
-    (r"(.*) line (\d+): BadLine: .*", sentences.bad_line),
+    (r"(.*) line (\d{1,20}): BadLine: .*", sentences.bad_line),
     (r"(.*) line (\d+): OutOfRange: .*", sentences.out_of_range),
     (r"(.*) has (?:more than )?[\d,]+ bytes, (?:the most of|and an input has at most) .*", sentences.too_large),
     (r"the shortest list has .*", "so much differs that one list can't hold it: give --into NAME, and give all lists to "
