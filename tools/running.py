@@ -1,5 +1,6 @@
 """Runs a program of this repository. What it says while it is built goes on to standard error at once."""
 import contextlib
+import signal
 import subprocess
 import sys
 import threading
@@ -24,15 +25,34 @@ class Ran:
 
 
 @contextlib.contextmanager
+def held():
+    """Signals that have a handler wait until something is done."""
+    came, handlers = [], {one: signal.getsignal(one) for one in (signal.SIGINT, signal.SIGTERM)}
+    handlers = {one: handler for one, handler in handlers.items() if callable(handler)}
+    for one in handlers:
+        signal.signal(one, lambda *which: came.append(which))
+    try:
+        yield
+    finally:
+        for one, handler in handlers.items():
+            signal.signal(one, handler)
+        for number, frame in came:
+            handlers[number](number, frame)
+
+
+@contextlib.contextmanager
 def started(*words, **how):
     """A program, which is stopped if this tool is. Words may name standard input, and files that this tool was given
     open, as by `<(..)` of a shell."""
-    child = subprocess.Popen(words, close_fds=False, **how)
+    child = None
     try:
+        with held():
+            child = subprocess.Popen(words, close_fds=False, **how)
         yield child
     except BaseException:
-        child.terminate()
-        child.wait()
+        if child is not None:
+            child.terminate()
+            child.wait()
         raise
 
 
