@@ -3,8 +3,8 @@
 Copies of the script, of tools/launch and of tools/crates.bash stand in a folder of their own beside crates.txt. It says
 of each crate that it is proved, and how many are of how many: that number is found here in another way. If building
 fails it says so, the last lines of `rt ci` are shown, and the status is 125; so it is if there is no `rt`, or
-ITHREADS_NO_BUILD is set. SIGTERM and SIGINT end `rt` too, and leave nothing. If a source is newer than the program, a
-line says so, and the program runs.
+ITHREADS_NO_BUILD is set. SIGTERM and SIGINT end `rt` too, and leave nothing. If a source and a commit are newer than
+the program, a line says so, and the program runs.
 """
 import os
 import pathlib
@@ -139,20 +139,25 @@ def check_without(checks):
 
 
 def check_age(checks):
-    """A program that is there, and sources that are older or newer."""
+    """A program that is there, and sources that are older or newer; and ones that are newer without a commit."""
     place = place_of(checks, "there", "", True)
     program, source = place / "crates/ithreads_cli/out/ithreads_cli", place / "crates/ithreads_cli/src/main.rt"
-    for file, text in ((program, PROGRAM), (source, ""), (place / "crates/ithreads_cli/specs/Main.antt", "")):
-        file.parent.mkdir()
+    commits = place / ".git/logs/HEAD"
+    for file, text in ((program, PROGRAM), (source, ""), (place / "crates/ithreads_cli/specs/Main.antt", ""),
+                       (commits, "")):
+        file.parent.mkdir(parents=True)
         file.write_text(text)
     program.chmod(0o755)
-    for seconds, wanted in ((-9, []), (9, ["ithreads: crates/ithreads_cli/src/main.rt is newer than the program: remove "
-                                           "crates/ithreads_cli/out/ithreads_cli to have it built anew"])):
-        at = program.stat().st_mtime + seconds
-        os.utime(source, (at, at))
+    older = ["ithreads: crates/ithreads_cli/src/main.rt is newer than the program: remove "
+             "crates/ithreads_cli/out/ithreads_cli to have it built anew"]
+    for of_source, of_commit, wanted in ((-9, -9, []), (-9, 9, []), (9, -9, []), (9, 9, older)):
+        for file, seconds in ((source, of_source), (commits, of_commit)):
+            at = program.stat().st_mtime + seconds
+            os.utime(file, (at, at))
         status, printed, said = called(place)
         right = status == 7 and printed.startswith("program show") and said == [*wanted, ""]
-        checks.expect(f"a source of {seconds} s after the program: {status} {printed} {said}", right)
+        checks.expect(f"a source of {of_source} s after the program, a commit of {of_commit} s: {status} {printed} {said}",
+                      right)
 
 
 def check_stopped(checks, lines):

@@ -75,7 +75,7 @@ SAID_BY_OTHERS = [
     "tools/verify: round 0 can't be replayed: status 125: the program isn't built, and can't be",
     "ithreads: the program is not built, and ITHREADS_NO_BUILD is set",
     "ithreads: crates/a/src/lib.rt is newer than the program: remove crates/b/out/b to have it built anew",
-    "ithreads: proves the program's 40 crates and builds it, which takes 20 to 50 minutes on four processors",
+    "ithreads: proves the program's 40 crates and builds it, which takes 20 to 60 minutes on two to four processors",
     "ithreads: tools/try runs it before that, without a proof", "trace: proved rv_step (3 of 40, 17 s)",
     "ithreads: 3 of 40 crates proved, 47 s", "ithreads: the sources can't be copied to /tmp/x",
     "ithreads: /usr/lib/ithreads/bin/ithreads_cli isn't there: install ithreads again",
