@@ -1,12 +1,12 @@
-/* Counts the lines, words and bytes of the input, as wc does, and puts the three numbers out in decimal.
-   Four threads count in a quarter of the input each, and add what they counted to totals under a mutex. Built by
+/* Counts the lines, words and bytes of the input, as wc does, and outputs the three numbers in decimal.
+   Each of four threads counts a quarter of the input, and adds its counts to totals under a mutex. Built by
 
        clang --target=riscv32 -march=rv32i -mabi=ilp32 -O2 -std=c11 -ffreestanding -fno-builtin -nostdlib -static \
            -fuse-ld=lld -o count.elf count.c                                                                       */
 
 typedef unsigned int word;
 
-/* the environment calls that are made, by their numbers in docs/MACHINE.md */
+/* the environment calls used, by their numbers in docs/MACHINE.md */
 enum { EXIT = 0, PUT = 1, CREATE = 2, THREAD_EXIT = 3, JOIN = 4, LOCK = 6, UNLOCK = 8 };
 
 enum { THREADS = 4, TOTALS = 0 };
@@ -22,7 +22,7 @@ static word call(word number, word first, word second)
     return a0;
 }
 
-/* the input's length stands in its header, and its bytes in the pages behind that */
+/* the input's length is in its header, and its bytes are in the pages after that */
 static word length(void)
 {
     return *(const volatile word *)0xC0000000u;
@@ -38,7 +38,7 @@ static int is_space(word byte)
     return byte == ' ' || (byte >= '\t' && byte <= '\r');
 }
 
-/* a word belongs to the quarter in which it begins */
+/* a word belongs to the quarter that it begins in */
 static void count(word quarter)
 {
     word size = (length() + THREADS - 1) / THREADS, line = 0, begun = 0;
@@ -54,7 +54,7 @@ static void count(word quarter)
     call(THREAD_EXIT, 0, 0);
 }
 
-/* appends a number's digits and a byte behind them */
+/* appends a number's digits and then the byte `end` */
 static char *decimal(char *to, word number, char end)
 {
     static const word powers[] = { 1000000, 100000, 10000, 1000, 100, 10, 1 };

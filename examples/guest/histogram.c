@@ -1,15 +1,15 @@
-/* How often each byte occurs in the input: a line `BYTE COUNT` for each byte that occurs, ascending, both in decimal.
+/* Counts how often each byte occurs in the input: a line `BYTE COUNT` for each byte that occurs, ascending, both in decimal.
 
-   A block of the work is one page of the input. Worker w counts in the blocks w, w + 4, w + 8 .. up to the input's end, adds its counts up,
-   and ends. The main thread joins the workers, adds up what they have and puts the lines out.
+   A block of the work is one page of the input. Worker w counts the blocks w, w + 4, w + 8 .. up to the input's end, adds up
+   its counts, and ends. The main thread joins the workers, adds up their sums and outputs the lines.
 
    What keeps an edit small:
-   - each block's counts stand on a page of their own, and so do each worker's: an edited byte changes one page of counts, one worker's sums,
-     and the lines. Everything else is reused, for nothing else loads these pages.
-   - a call stands behind each block. The workers carry nothing from block to block but the block's number.
-   - no worker asks for the input's length, or each step would start differently once it changes. The main thread says how many bytes a block
-     has on the block's page; a longer input changes this for the blocks at its old and its new end, and for no other.
-   - sums are made in two levels, so the last step loads four pages and not as many as there are blocks. */
+   - each block's counts have a page of their own, and so do each worker's sums: an edited byte changes one page of counts,
+     one worker's sums, and the lines. Everything else is reused, since nothing else loads these pages.
+   - there is a call after each block. The workers carry nothing from block to block except the block's number.
+   - no worker reads the input's length, or each step would start differently once it changes. The main thread stores how
+     many bytes a block has on the block's page; a longer input changes this only for the blocks at its old and its new end.
+   - sums have two levels, so the last step loads four pages and not one for each block. */
 #include "ithreads.h"
 
 enum { WORKERS = 4, BLOCKS = IT_INPUT_MOST / IT_PAGE, BYTES = 256 };

@@ -1,20 +1,20 @@
-/* Four clusters of points, by k-means in fixed point. A point is two bytes of the input, x and y; the first 16,384 points count, and where the
-   input ends before, they are (0, 0). Centres are in quarters. They begin at (64, 64), (192, 64), (64, 192), (192, 192), and move four times: each
-   point goes to the centre at the least distance, of equal ones to the first; then each centre that has points moves to their mean, rounded down to
-   quarters. A line for each centre, `X Y POINTS`, has where it is in the end, with two decimals, and how many points it had in the last move.
+/* Four clusters of points, by k-means in fixed point. A point is two bytes of the input, x and y; the first 16,384 points count, and points after
+   the input's end are (0, 0). Centres are in quarters. They start at (64, 64), (192, 64), (64, 192), (192, 192), and move four times: each point
+   goes to the nearest centre, the first of equally near ones; then each centre that has points moves to their mean, rounded down to quarters. A
+   line for each centre, `X Y POINTS`, has its final position, with two decimals, and how many points it had in the last move.
 
-   A block is one page of the input, 2,048 points. Four workers add up the points of two blocks each for each centre, and meet the main thread at
-   a barrier; the main thread moves the centres, and all meet again.
+   A block is one page of the input, 2,048 points. Each of four workers adds up the points of two blocks for each centre, and meets the main thread
+   at a barrier; the main thread moves the centres, and all meet again.
 
-   Each block of a move depends on each point of the move before, by the centres: once a centre comes to another quarter, all blocks of the later
+   Each block of a move depends, by the centres, on every point of the move before: once a centre moves to another quarter, all blocks of the later
    moves are executed again. An edit of a page does that, and saves little more than the first move's other blocks. What keeps a smaller edit small:
-   - centres are rounded to quarters. The mean of some thousand points seldom comes to another quarter for one point's sake; then the page of the
-     centres has the bytes that it had, and of each move only the edited block is executed again. So the coarser the numbers that are passed on, the
-     more is reused.
-   - each block's sums, for each move, stand on a page of their own, zero at first, and not on the stack. There they would stay behind, and the worker's
-     next step, which loads its saved registers from the same page, would see that they differ: the edited block and the worker's next one would be
+   - centres are rounded to quarters. One point seldom moves the mean of some thousand points to another quarter; if it doesn't, the page of the
+     centres has the same bytes as before, and only the edited block of each move is executed again. So the coarser the numbers that are passed on,
+     the more is reused.
+   - each block's sums, for each move, have a page of their own, zero at first, and aren't on the stack. They would stay there, and the worker's
+     next step, which loads its saved registers from the same page, would see the difference: the edited block and the worker's next one would be
      executed again in each move.
-   - squares are looked up in a table, since the machine has no multiplication; nobody stores to it after the main thread's first step. */
+   - squares are looked up in a table, since the machine has no multiplication; no thread stores to it after the main thread's first step. */
 #include "ithreads.h"
 
 enum { WORKERS = 4, CENTRES = 4, MOVES = 4, POINTS = 16384, BLOCK = IT_PAGE / 2, BLOCKS = POINTS / BLOCK, ONE = 4, FAR = 256 * ONE, MEETING = 0 };
@@ -80,7 +80,7 @@ static unsigned work(unsigned worker)
     return 0;
 }
 
-/* moves the centres, and gives how many points the one has */
+/* moves the centre, and returns how many points it has */
 static IT_NOINLINE unsigned move_centre(unsigned move, unsigned c)
 {
     unsigned x = 0, y = 0, points = 0;

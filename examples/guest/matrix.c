@@ -1,15 +1,15 @@
-/* The product of two matrices of 32-bit words, modulo 2^32, row by row. The input has the first, 256 rows by 32 columns, and then the second,
-   32 rows by 8 columns; the output has 256 rows by 8 columns. Words are little-endian, as the machine has them. A shorter input ends the run
-   with code 1; what is behind the matrices isn't looked at.
+/* The product of two matrices of 32-bit words, modulo 2^32, row by row. The input has the first, 256 rows by 32 columns, and then the
+   second, 32 rows by 8 columns; the output has 256 rows by 8 columns. Words are little-endian, as in the machine. A shorter input ends the
+   run with code 1; bytes after the matrices are ignored.
 
-   A tile of the product is 32 rows, which are one page of the input, by one column; four workers make two bands of rows each, and in each band
-   one tile after the other, with a call behind each.
+   A tile of the product is 32 rows, which are one page of the input, by one column. Each of four workers computes two bands of rows, in
+   each band one tile after the other, with a call after each.
 
    What keeps an edit small:
-   - the second matrix stands on one page of the input, and each tile needs one column of it. So the main thread first copies each column to a
-     page of its own, a short step. An edited word of the second matrix then reaches the tiles of one column, and one of the first matrix the
-     tiles of one band: 8 of the 64 tiles each.
-   - the tiles of a band are written to one page, for a page that is only stored to doesn't count; and it is what one it_put puts out. */
+   - the second matrix is on one page of the input, and each tile needs one column of it. So the main thread first copies each column to a
+     page of its own, in a short step. Then an edited word of the second matrix reaches the tiles of one column, and one of the first matrix
+     the tiles of one band: 8 of the 64 tiles each.
+   - the tiles of a band are stored to one page, since a page that a step only stores to doesn't count; and one it_put outputs that page. */
 #include "ithreads.h"
 
 enum { WORKERS = 4, ROWS = 256, INNER = 32, COLUMNS = 8, BAND = IT_PAGE / 4 / INNER, BANDS = ROWS / BAND };

@@ -1,22 +1,22 @@
-/* Packs the input. It is cut into items of 1,024 bytes, the last maybe shorter. In each item every byte is replaced by its difference to the byte
-   before it, modulo 256, the first by itself; then runs of equal bytes, up to 255 long, are written as two bytes, the run's length and the byte.
-   The output has each item's packed length, in two bytes, the lower first, and what it was packed to.
+/* Packs the input. It is divided into items of 1,024 bytes; the last may be shorter. In each item every byte is replaced by its
+   difference to the byte before, modulo 256, and the first stays as it is; then runs of equal bytes, up to 255 long, are written as two
+   bytes, the run's length and the byte. The output has each item's packed length, in two bytes, the lower first, and the packed item.
 
-   A reader takes the differences, two packers pack, and the main thread puts out, in order. Items go through four slots. A semaphore counts the
-   slots that are free, another those that are filled; the packers take the next number under a mutex, and the main thread waits by a condition
-   until the item that it needs next is packed, for a packer may be done with a later one first.
+   A reader takes the differences, two packers pack, and the main thread outputs, in order. Items go through four slots. One semaphore
+   counts the free slots, another the filled ones; the packers take the next number under a mutex, and the main thread waits by a
+   condition until the item that it needs next is packed, since a packer may finish a later one first.
 
    What keeps an edit small:
-   - the reader copies an item to its slot, so that packers load one item and not the page of the input, on which there are four.
-   - item k always goes through slot k mod 4, and each slot's bytes have a page of their own. So an edited item reaches one packer's step and the one
-     that puts it out.
-   - a slot is used again and again, and a page counts whole: where a packed item is shorter than before the edit, bytes of an older one stay behind it,
-     and the steps that put the slot's next items out see a difference until a longer one covers it. They take some 30 instructions each. To clear
-     what an item doesn't fill would avoid them, and take some thousands of instructions for each item.
-   - the numbers under the mutex say which items are taken and packed, nothing of what is in them. They stand on a page of their own, and locks are
-     held for some ten instructions.
-   - the reader has the length in a register, so all of its steps are executed again when the length changes; the packers' are reused all the same,
-     since they start with the slots' bytes alone. */
+   - the reader copies an item to its slot, so that a packer loads one item and not the page of the input, which has four.
+   - item k always goes through slot k mod 4, and each slot's bytes have a page of their own. So an edited item reaches one step of a
+     packer and the step that outputs it.
+   - a slot is used again and again, and a page counts as a whole: if a packed item is shorter than before the edit, bytes of an older
+     one stay after it, and the steps that output the slot's next items see a difference until a longer item covers it. They take some
+     30 instructions each. Clearing the rest of the slot would avoid that, and take some thousands of instructions for each item.
+   - the numbers under the mutex say which items are taken and packed, and nothing about their content. They have a page of their own,
+     and locks are held for some ten instructions.
+   - the reader has the length in a register, so all of its steps are executed again when the length changes; the packers' are still
+     reused, since they depend only on the slots' bytes. */
 #include "ithreads.h"
 
 enum { PACKERS = 2, SLOTS = 4, ITEM = 1024, RUN = 255 };
@@ -29,13 +29,13 @@ struct IT_PAGE_ALIGNED item {
 };
 
 struct IT_PAGE_ALIGNED packed {
-    unsigned length; /* with the two bytes before the runs; 0: the end */
+    unsigned length; /* including the two bytes before the runs; 0: the end */
     unsigned char bytes[IT_PAGE - 4];
 };
 
 struct IT_PAGE_ALIGNED guarded {
     unsigned next;         /* the item that a packer takes next */
-    unsigned ready[SLOTS]; /* one more than the number of the item that was packed last in the slot */
+    unsigned ready[SLOTS]; /* one more than the number of the last item packed in the slot */
 };
 
 static struct item items[SLOTS];
@@ -103,7 +103,7 @@ static unsigned work(unsigned packer)
     return 0;
 }
 
-/* puts the items out, up to the first end */
+/* outputs the items, up to the first end */
 static void put_items(void)
 {
     for (unsigned k = 0;; k++) {

@@ -1,18 +1,18 @@
-/* Smooths a row of 65,536 cells four times: each cell becomes a quarter of its left neighbour, itself twice and its right neighbour, rounded
-   down; beyond the ends are zeros. A cell is a number of 16 bits: at first 256 times a byte of the input, or 0 behind the input's end; the output
-   has the upper byte of each.
+/* Smooths a row of 65,536 cells four times: each cell becomes a quarter of the sum of its left neighbour, twice itself and its right
+   neighbour, rounded down; beyond the ends are zeros. A cell is a number of 16 bits: at first 256 times a byte of the input, or 0 after
+   the input's end; the output has the upper byte of each.
 
-   A block is 4,096 cells, one page of the input. Four workers smooth four blocks each and meet at a barrier after each sweep. Sweeps go from one
-   of two rows of cells to the other, so that nobody stores to what others load in the same sweep.
+   A block is 4,096 cells, one page of the input. Each of four workers smooths four blocks and meets the others at a barrier after each
+   sweep. A sweep goes from one of two rows of cells to the other, so that no thread stores to cells that others load in the same sweep.
 
    What keeps an edit small:
-   - a block needs one cell of each neighbour. Were it loaded from the neighbour's cells, then after an edit anywhere in a block its neighbours would
-     be executed again in each sweep too. So each block also writes its first and its last cell to a page each, and only these pages are loaded by
-     neighbours. They change once the edit has come to the block's end, a cell with each sweep. The two don't share a page, for then a new last cell
-     would also be seen by the neighbour that needs the first.
-   - a call stands behind each block, and the barrier's answer, which says who came last, goes by the order of the steps, which an edit doesn't
-     change.
-   - nobody asks for the input's length: the pages of the input are zero behind its end, and may be loaded. */
+   - a block needs one cell of each neighbour. If it loaded it from the neighbour's cells, then after an edit anywhere in a block its
+     neighbours would be executed again in each sweep too. So each block also stores its first and its last cell to a page each, and
+     neighbours load only these pages. They change once the edit has reached the block's end, one cell further in each sweep. The two
+     don't share a page, or the neighbour that needs the first cell would also see a new last cell.
+   - there is a call after each block; and the barrier's result, which says which thread came last, follows from the order of the steps,
+     which an edit doesn't change.
+   - no thread reads the input's length: the pages of the input are zero after its end, and may be loaded. */
 #include "ithreads.h"
 
 enum { WORKERS = 4, BLOCKS = 16, CELLS = IT_PAGE, SWEEPS = 4, MEETING = 0 };
@@ -26,7 +26,7 @@ struct IT_PAGE_ALIGNED cell {
 };
 
 static struct block blocks[2][BLOCKS];
-static struct cell firsts[2][BLOCKS + 1]; /* of block b at b; behind the last are zeros */
+static struct cell firsts[2][BLOCKS + 1]; /* of block b at b; after the last are zeros */
 static struct cell lasts[2][BLOCKS + 1];  /* of block b at b + 1; before the first are zeros */
 static unsigned char packed[BLOCKS][IT_PAGE] IT_PAGE_ALIGNED;
 

@@ -1,18 +1,18 @@
-/* How often each word occurs: a line `WORD COUNT` for each, in the order of the alphabet. A word is a run of letters, A to Z in either case
-   and written small; of a longer word the first 12 letters count. An input of more than 131,072 bytes ends the run with code 1, and so does one with
-   more than 255 different words of one range of first letters.
+/* Counts how often each word occurs: a line `WORD COUNT` for each, in alphabetical order. A word is a run of letters, A to Z in either case,
+   output in lower case; of a longer word the first 12 letters count. An input of more than 131,072 bytes ends the run with code 1, and so does
+   one with more than 255 different words of one range of first letters.
 
-   First each block, a page of the input, is counted into seven tables, by the range that a word's first letter is in: a-d, e-h, .. y-z. Then
-   there is a thread for each range, which puts the blocks' tables for it together and writes its lines. The main thread puts them out in order.
+   First each block, a page of the input, is counted into seven tables, by the range of a word's first letter: a-d, e-h, .. y-z. Then a thread
+   for each range merges the blocks' tables for it and writes its lines. The main thread outputs them in order.
 
    What keeps an edit small:
-   - each table has a page of its own. An edited word changes the tables of its old and its new range in one block, so that block is counted
-     again, and then at most two of the seven ranges; the others' tables have the bytes that they had, though they were written again.
-   - a word that goes over a page's end belongs to the block in which it begins. So a block would have to look at the page before to know whether
-     its first letters are the rest of a word, and would be counted again after each edit there. Instead the main thread looks at the bytes
-     around the pages' ends first, a short step that every edit makes execute, and says on a page for each block where its words begin and end.
-     These pages seldom change. A block whose last word goes on on the next page still loads that one, so an edit there reaches two blocks.
-   - lines are written to a page of their own for each range, so the main thread's step that puts them out is reused for the other ranges. */
+   - each table has a page of its own. An edited word changes the tables of its old and its new range in one block. So that block is counted
+     again, and then at most two of the seven ranges; the others' tables have the same bytes as before, though they were stored again.
+   - a word that crosses a page's end belongs to the block in which it begins. A block would have to look at the page before to know whether its
+     first letters are the rest of a word, and would be counted again after each edit there. Instead the main thread first looks at the bytes
+     around the pages' ends, in a short step that every edit executes again, and stores on a page for each block where its words begin and end.
+     These pages seldom change. A block whose last word continues on the next page still loads that page, so an edit there reaches two blocks.
+   - each range's lines have a page of their own, so the main thread's steps that output them are reused for the other ranges. */
 #include "ithreads.h"
 
 enum { WORKERS = 4, BLOCKS = 32, RANGES = 7, LETTERS = 12, MOST = 255 };
@@ -21,7 +21,7 @@ struct IT_PAGE_ALIGNED share {
     unsigned first, end;
 };
 
-/* a word's letters, four in each number, the first in the highest byte: so words are ordered as their numbers are */
+/* a word's letters, four in each number, the first in the highest byte, so words sort as their numbers do */
 struct entry {
     unsigned letters[3], count;
 };
@@ -40,21 +40,21 @@ static struct share shares[BLOCKS];
 static struct table blocks[BLOCKS][RANGES], totals[RANGES];
 static struct lines lines[RANGES];
 
-/* 1 to 26, or 0 where the byte is no letter */
+/* 1 to 26, or 0 if the byte is no letter */
 static unsigned letter(unsigned byte)
 {
     unsigned place = (byte | 32) - 'a';
     return place < 26 ? place + 1 : 0;
 }
 
-/* where the words begin that begin on page b or later; at is where those of the page before begin */
+/* where the words begin that begin on page b or later; `at` is that place for the page before */
 static unsigned beginning(unsigned b, unsigned at, unsigned length)
 {
     const unsigned char *input = it_input();
     unsigned place = b * IT_PAGE;
     if (place >= length)
         return length;
-    if (at > place) /* a word goes over the whole page before */
+    if (at > place) /* a word covers the whole page before */
         return at;
     if (letter(input[place - 1]))
         while (place < length && letter(input[place]))

@@ -1,6 +1,6 @@
-/* What some lines of C cost as a guest. Each is between two calls of sched_yield, so that it is a step of its own, and a
-   step behind it has nothing between its calls: examples/posix/check takes the one from the other for the table in
-   guest/README.md. Everything is volatile, or else the compiler would do it. */
+/* The costs of some lines of C in a guest. Each is between two calls of sched_yield, so that it is a step of its own,
+   and an empty step follows it: examples/posix/check subtracts that from it for the table in guest/README.md.
+   Everything is volatile, or else the compiler would compute it. */
 #include <sched.h>
 #include <stdint.h>
 #include <stdio.h>

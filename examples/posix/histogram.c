@@ -1,12 +1,12 @@
 /* Histogram: how often each level of red, green and blue occurs in an image. A pixel is four bytes: red, green, blue,
-   and one that isn't looked at; what is left behind the last whole pixel isn't looked at either. Of each colour a line
-   has its most frequent level, and how many pixels are in each eighth of the levels.
+   and one that is ignored; bytes after the last whole pixel are ignored too. For each colour, a line has its most
+   frequent level, and how many pixels are in each eighth of the levels.
 
    cc -pthread -O2 histogram.c && ./a.out <histogram.in
 
-   Layout: a block is a page of the image, with its counts on a page of its own, and a call (sched_yield) stands behind
-   each block. Nobody but the block itself is told how many pixels it has. A worker adds its blocks up by itself, and
-   holds the mutex only to add its sums to the totals, since the totals differ for all who come behind an edit. */
+   Layout: a block is a page of the image. Its counts have a page of their own, which also has its number of pixels, for
+   this block only; a call (sched_yield) follows each block. A worker adds up its blocks by itself, and holds the mutex
+   only to add its sums to the totals, since after an edit the totals differ for all workers that come later. */
 #include <pthread.h>
 #include <sched.h>
 #include <stdalign.h>
@@ -21,7 +21,7 @@ struct counts {
 };
 
 struct block {
-    alignas(PAGE) uint32_t pixels; /* 0 behind the image's end */
+    alignas(PAGE) uint32_t pixels; /* 0 after the image's end */
     struct counts counts;
 };
 

@@ -1,16 +1,16 @@
-/* k-means: four clusters of points, in whole numbers. A point is two bytes, x and y; an odd byte at the end isn't
-   looked at. Each point goes to its nearest centre, of equal ones to the first, and each centre that has points moves
-   to their mean, rounded to the nearest number; until no centre moves, or ROUNDS times. A line for each centre has
-   where it is, and how many points went to it last.
+/* k-means: four clusters of points, in whole numbers. A point is two bytes, x and y; an odd byte at the end is ignored.
+   Each point goes to the nearest centre, the first of equally near ones, and each centre that has points moves to their
+   mean, rounded to the nearest number; until no centre moves, or ROUNDS times. A line for each centre has its position,
+   and how many points went to it last.
 
    cc -pthread -O2 kmeans.c && ./a.out <kmeans.in
 
-   Layout: a block is a page of points, and a call (sched_yield) stands behind each. What a block adds up in a round
-   stands on a page of its own, zero at first, and not on the stack, from which the worker's next step loads its return
-   address. Who comes last to the barrier moves the centres. Each round's centres have a page of their own, too: what
-   changes them makes all blocks of the next round be executed. So they are rounded, for a page of points seldom moves a
-   centre to another whole number; and how many points each has, which nearly each edit changes, stands elsewhere.
-   Squares are looked up in a table, since RV32I has no multiplication. */
+   Layout: a block is a page of points, and a call (sched_yield) follows each. The sums of a block in a round have a
+   page of their own, zero at first, and aren't on the stack, from which the worker's next step loads its return
+   address. The last worker to reach the barrier moves the centres. Each round's centres have a page of their own, too:
+   if it changes, all blocks of the next round are executed. So they are rounded, since a page of points seldom moves a
+   centre to another whole number; and the numbers of points of the centres, which nearly every edit changes, are
+   elsewhere. Squares are looked up in a table, since RV32I has no multiplication. */
 #include <pthread.h>
 #include <sched.h>
 #include <stdalign.h>
@@ -25,7 +25,7 @@ struct sum {
 };
 
 struct share {
-    alignas(PAGE) unsigned points; /* of a block; 0 behind the last */
+    alignas(PAGE) unsigned points; /* of a block; 0 after the last */
 };
 
 struct sums {

@@ -1,13 +1,13 @@
 /* Linear regression: the line y = a + b x that fits a cloud of points best, and how well (r squared). A point is two
-   bytes, x and y; an odd byte at the end isn't looked at.
+   bytes, x and y; an odd byte at the end is ignored.
 
    cc -pthread -O2 linear_regression.c && ./a.out <linear_regression.in
 
-   The main thread reads the points, a page at a time, and posts the semaphore of the worker whose turn it is: so
-   reading and adding up go on side by side. A block without points tells a worker that there are no more.
+   The main thread reads the points, a page at a time, and posts the semaphore of the worker whose turn it is, so that
+   reading and adding up overlap. A block without points ends a worker.
 
-   Layout: a block is a page of points; what it adds up to is stored once, at its end, beside the other blocks' sums,
-   which nobody loads before all are there. Sums of squares of one block fit into 32 bits, all of them into 64. */
+   Layout: a block is a page of points; its sums are stored once, at its end, next to the other blocks' sums, which no
+   thread loads before all are complete. Sums of squares of one block fit into 32 bits, those of all into 64. */
 #include <inttypes.h>
 #include <pthread.h>
 #include <semaphore.h>
@@ -19,7 +19,7 @@
 enum { PAGE = 4096, MOST_BLOCKS = 256, WORKERS = 4 };
 
 struct share {
-    alignas(PAGE) uint32_t points; /* of a block; 0 behind the last */
+    alignas(PAGE) uint32_t points; /* of a block; 0 after the last */
 };
 
 struct sums {

@@ -1,14 +1,14 @@
-/* Matrix product: A times B, modulo 2^32. The input has B first, 128 rows of 16 numbers, and then the rows of A, 128
-   numbers each, as many as there are; a number has two bytes, the lower one first. Of each band of 16 rows of the
-   product a line has its first and its last number and the sum of all.
+/* Matrix product: A times B, modulo 2^32. The input has B first, 128 rows of 16 numbers, and then up to 1,024 rows of
+   A, 128 numbers each; a number has two bytes, the lower one first. For each band of 16 rows of the product, a line has
+   its first and its last number and the sum of all.
 
    cc -pthread -O2 matrix.c && ./a.out <matrix.in
 
    Layout: a band of A is a page of the input. A tile of the product is a band by a column, and a call (sched_yield)
-   stands behind each tile. A tile needs one column of B, and B is one page; so the main thread copies each column to a
-   page of its own first. Then an edit of A reaches the tiles of one band, and one of B the tiles of one column. The
-   lines are written by the workers, behind all their tiles, each on a page of its own: written by the main thread all
-   of them would be written again. */
+   follows each tile. A tile needs one column of B, and B is one page; so the main thread first copies each column to a
+   page of its own. Then an edit of A reaches the tiles of one band, and one of B the tiles of one column. The workers
+   format the lines, after all their tiles, each on a page of its own: if the main thread did, it would format all lines
+   again. */
 #include <pthread.h>
 #include <sched.h>
 #include <stdalign.h>
@@ -27,7 +27,7 @@ struct band {
 };
 
 struct share {
-    alignas(PAGE) unsigned rows; /* of a band; 0 behind the last */
+    alignas(PAGE) unsigned rows; /* of a band; 0 after the last */
 };
 
 struct tiles {
@@ -40,7 +40,7 @@ struct line {
 
 struct task {
     pthread_t thread;
-    unsigned first; /* band, and then each WORKERSth */
+    unsigned first; /* band; then every WORKERSth */
 };
 
 static alignas(PAGE) uint16_t b[INNER][COLUMNS];

@@ -1,18 +1,18 @@
-/* Route cache: how long trips over a map are, by a cache that many threads read and few write. The input begins with
-   the map, a page: of each of 256 places eight roads, each a byte that says where to and one that says how long. What
-   follows are trips, each a byte that says from where and one that says where to.
+/* Route cache: the lengths of trips over a map, with a cache that many threads read and few write. The input begins
+   with the map, a page: for each of 256 places eight roads, each a byte for the place it leads to and one for its
+   length. Then come the trips, each a byte for the start and one for the destination.
 
    cc -pthread -O2 route_cache.c && ./a.out <route_cache.in
 
-   The cache has the shortest ways from a place to all others, once somebody has asked for them. A request is 128 trips:
-   a thread looks them up under the lock to read, beside other readers. Where the cache hasn't the place that a trip
-   begins at, the thread gives up the lock, finds the ways, enters them under the lock to write, and reads on. The ways
-   are the same whoever finds them, so the output is the same in each order. With -DMUTEX a mutex is in place of the
-   lock, to compare.
+   The cache has the shortest ways from a place to all others, once a request needed them. A request is 128 trips: a
+   thread looks them up under the lock to read, along with other readers. If the cache doesn't have the place at which a
+   trip begins, the thread releases the lock, finds the ways, enters them under the lock to write, and continues
+   reading. The ways are the same whichever thread finds them, so the output is the same in any order. With -DMUTEX a
+   mutex replaces the lock, to compare.
 
-   Layout: a block is a page of trips, and what came of it has a page of its own. The ways from a place have a page in
-   the cache, so a place that is entered is a difference for those alone who ask for it. A thread finds ways on a page
-   of its own: on the stack they would be seen as a difference by its next step. */
+   Layout: a block is a page of trips, and its results have a page of their own. The ways from a place have a page in
+   the cache, so entering a place is a difference only for the threads that use it. A thread finds ways on a page of its
+   own: on the stack its next step would see them as a difference. */
 #include <pthread.h>
 #include <stdalign.h>
 #include <stdint.h>
@@ -38,11 +38,11 @@ struct ways {
 
 struct search {
     struct ways found;
-    unsigned char queue[PLACES], waits[PLACES]; /* places whose roads are to be looked at, and whether each is one */
+    unsigned char queue[PLACES], waits[PLACES]; /* places whose roads have to be followed, and whether each is one */
 };
 
 struct block {
-    alignas(PAGE) unsigned trips; /* 0 behind the input */
+    alignas(PAGE) unsigned trips; /* 0 after the input */
     unsigned without, length;     /* trips without a way, and the length of the others */
     unsigned longest, which;      /* of these the first among the longest */
 };
@@ -81,7 +81,7 @@ static __attribute__((noinline)) void deal(unsigned trips)
     }
 }
 
-/* Adds a block's trips from `at` on, up to the first whose ways aren't known or to the end; gives where that is. */
+/* Adds a block's trips from `at` on, up to the first whose ways aren't known or to the end; returns where that is. */
 static __attribute__((noinline)) unsigned look_up(unsigned b, unsigned at, unsigned end)
 {
     struct block *block = &blocks[b];
@@ -100,7 +100,7 @@ static __attribute__((noinline)) unsigned look_up(unsigned b, unsigned at, unsig
     return at;
 }
 
-/* A place's roads are looked at again whenever a shorter way to it was found. */
+/* A place's roads are followed again whenever a shorter way to it has been found. */
 static __attribute__((noinline)) void find_ways(struct search *search, unsigned from)
 {
     unsigned first = 0, behind = 1;
@@ -124,7 +124,7 @@ static __attribute__((noinline)) void find_ways(struct search *search, unsigned 
     }
 }
 
-/* Somebody else may have entered the place meanwhile: then readers rely on what is there. */
+/* Another thread may have entered the place meanwhile: then readers rely on its entry, and it stays. */
 static __attribute__((noinline)) void enter(const struct search *search, unsigned from)
 {
     if (!cache[from].known) {

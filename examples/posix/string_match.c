@@ -1,13 +1,13 @@
 /* String match: where each of some keys occurs in a text. The input begins with the keys, a line for each, and an empty
-   line behind the last; what follows is the text. A line for each key says how often it occurs, and the offsets of the
-   first and of the last place, from the input's beginning. There are at most 8 keys of at most 32 bytes.
+   line after the last; then comes the text. A line for each key has how often it occurs, and the offsets of the first
+   and of the last place, from the input's beginning. There are at most 8 keys of at most 32 bytes.
 
    cc -pthread -O2 string_match.c && ./a.out <string_match.in
 
-   Layout: a block is a page of the input. Who is free takes the next block: a counter under a mutex, on a page of its
-   own. After an edit the threads come in the order of the run before, so each gets the blocks that it had. A match may
-   go on on the next page, so the main thread copies what stands there to a page for the block, on which the block keeps
-   what it finds, too: on the stack it would be seen as a difference by the thread's next step. */
+   Layout: a block is a page of the input. A free thread takes the next block: a counter under a mutex, on a page of its
+   own. After an edit the threads come in the order of the run before, so each gets the same blocks. A match may
+   continue on the next page, so the main thread copies the start of that page to a page for the block, where the block
+   also keeps what it finds: on the stack the thread's next step would see it as a difference. */
 #include <pthread.h>
 #include <stdalign.h>
 #include <stdint.h>
@@ -22,8 +22,8 @@ struct found {
 };
 
 struct block {
-    alignas(PAGE) unsigned first, end; /* where a match may begin in the block; end is 0 behind the input */
-    unsigned char next[MOST_BYTES];    /* what stands behind the block; zeros behind the input */
+    alignas(PAGE) unsigned first, end; /* where a match may begin in the block; end is 0 after the input */
+    unsigned char next[MOST_BYTES];    /* the bytes after the block; zeros after the input */
     struct found found[MOST_KEYS];
 };
 
@@ -35,7 +35,7 @@ struct key {
 struct keys {
     alignas(PAGE) unsigned number;
     struct key of[MOST_KEYS];
-    unsigned char begins[256]; /* of each byte a bit for each key that begins with it */
+    unsigned char begins[256]; /* for each byte, a bit for each key that begins with it */
 };
 
 static alignas(PAGE) unsigned char input[MOST_BLOCKS + 1][PAGE]; /* the last page is zeros */
@@ -52,7 +52,7 @@ static _Noreturn void give_up(const char *why)
     exit(EXIT_FAILURE);
 }
 
-/* gives where the text begins */
+/* returns where the text begins */
 static unsigned read_keys(void)
 {
     const char *line = (const char *)input[0], *limit = line + PAGE, *end;

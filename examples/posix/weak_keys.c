@@ -1,12 +1,12 @@
 /* Weak keys: which RSA moduli share a prime with another one of their batch. Euclid's algorithm finds that prime, which
    breaks both keys (Heninger and others, Mining Your Ps and Qs, 2012). A page of the input is a batch of 512 lines,
-   each with a modulus of seven hexadecimal digits: 28 bits, where real ones have 2048. Of each batch with such a pair a
-   line is printed.
+   each with a modulus of seven hexadecimal digits: 28 bits, where real ones have 2048. For each batch with such a pair
+   it prints a line.
 
    examples/posix/make-keys >keys.in; cc -pthread -O2 weak_keys.c && ./a.out <keys.in
 
-   Layout: a block is a batch, with its numbers on a page of its own, and a call (sched_yield) stands behind each block.
-   What is found goes to a page of the worker, who only stores to it. */
+   Layout: a block is a batch, with its numbers on a page of its own, and a call (sched_yield) follows each block. The
+   results go to a page of the worker, which only stores to it. */
 #include <pthread.h>
 #include <sched.h>
 #include <stdalign.h>
@@ -21,7 +21,7 @@ struct batch {
     uint32_t modulus[KEYS];
 };
 
-/* How many pairs of a batch share a prime, and of the first one the lines and the prime. */
+/* The number of pairs of a batch that share a prime, and the lines and the prime of the first pair. */
 struct found {
     uint32_t pairs, first, second, prime;
 };

@@ -1,16 +1,16 @@
 /* Word count with a reduce step: how many different words a text has, and which ten of them occur most often. A word is
-   as many letters a to z as stand together, large or small; by the first 12 of them it is told from others.
+   a run of letters a to z, in upper or lower case; words with the same first 12 letters are the same.
 
    cc -pthread -O2 word_count.c && ./a.out <word_count.in
 
-   Eight threads first count words, block by block, each block into eight tables by ranges of the first letter (map).
-   When all blocks are counted, which the last thread tells by a condition, each thread puts the tables of one range
-   together and sorts them (reduce). The main thread takes the first ten of all.
+   First eight threads count words, block by block, each block into eight tables by ranges of the first letter (map).
+   When all blocks are counted, which the last thread signals by a condition, each thread merges the tables of one range
+   and sorts them (reduce). The main thread takes the first ten of all.
 
-   Layout: a block is a page of the text, with a call (sched_yield) behind it, and each of its tables has a page of its
-   own: an edited word changes the tables of one or two ranges, and the other ranges aren't put together again. A word
-   that goes over a page's end belongs to the block in which it begins; where that is, the main thread says on a page
-   for each block, so that no block looks at the page before. */
+   Layout: a block is a page of the text, followed by a call (sched_yield), and each of its tables has a page of its
+   own: an edited word changes the tables of one or two ranges, and the other ranges aren't merged again. A word that
+   crosses a page's end belongs to the block in which it begins; the main thread stores where that is on a page for each
+   block, so that no block looks at the page before. */
 #include <pthread.h>
 #include <sched.h>
 #include <stdalign.h>
@@ -24,7 +24,7 @@ struct share {
     alignas(PAGE) unsigned first, end; /* of a block's words, in the text */
 };
 
-/* a word is a number: five bits for each letter, the first one's highest; so words are ordered as their numbers are */
+/* a word is a number: five bits for each letter, the first one highest, so words sort as their numbers do */
 struct entry {
     uint64_t word; /* 0: the entry is free */
     uint32_t count;
@@ -45,7 +45,7 @@ static struct table tables[MOST_BLOCKS][THREADS];
 static struct range ranges[THREADS];
 static pthread_mutex_t mutex = PTHREAD_MUTEX_INITIALIZER;
 static pthread_cond_t all_counted = PTHREAD_COND_INITIALIZER;
-static alignas(PAGE) unsigned counting = THREADS; /* threads that aren't done with their blocks; under the mutex */
+static alignas(PAGE) unsigned counting = THREADS; /* threads that haven't finished their blocks; under the mutex */
 
 static _Noreturn void give_up(const char *why)
 {
@@ -53,7 +53,7 @@ static _Noreturn void give_up(const char *why)
     exit(EXIT_FAILURE);
 }
 
-/* 1 to 26, or 0 where the byte is no letter */
+/* 1 to 26, or 0 if the byte is no letter */
 static inline unsigned letter(unsigned byte)
 {
     unsigned place = (byte | 32) - 'a';
@@ -74,7 +74,7 @@ static __attribute__((noinline)) void deal(unsigned length)
     }
 }
 
-/* adds to the count of a word in a table of that many entries, a power of 2; whether there was room */
+/* adds to the count of a word in a table of `number` entries, a power of 2; returns whether there was room */
 static inline int add(struct entry *entries, unsigned number, uint64_t word, uint32_t count)
 {
     unsigned slot = (unsigned)(word >> 32) ^ (unsigned)word;
@@ -114,7 +114,7 @@ static __attribute__((noinline)) void count_block(unsigned b)
     }
 }
 
-/* the more frequent one first, and of equal ones the first in the alphabet */
+/* the more frequent one first, and of equally frequent ones the first in alphabetical order */
 static int by_count(const void *one, const void *other)
 {
     const struct entry *a = one, *b = other;

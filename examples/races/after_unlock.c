@@ -1,5 +1,5 @@
-/* A store after the unlock: the first store is under the mutex, and the second comes when another thread may have it.
-   `title` is stored to under the mutex alone, and doesn't race.
+/* A store after the unlock: the first store is under the mutex, and the second comes when another thread may hold it.
+   `title` is stored to only under the mutex, and doesn't race.
 
    races: pages */
 #include "ithreads.h"

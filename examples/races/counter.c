@@ -1,4 +1,4 @@
-/* A counter without its mutex: two threads read it, add 1 and store it, and none keeps the other away.
+/* A counter without its mutex: two threads read it, add 1 and store it, and nothing keeps one from interfering.
 
    races: counter */
 #include "ithreads.h"

@@ -1,5 +1,5 @@
-/* An initialisation that is checked twice: who finds `made` set doesn't lock, and nothing orders its reads behind the
-   stores of who made the value.
+/* An initialisation that is checked twice: a thread that finds `made` set doesn't lock, and nothing orders its reads
+   after the stores of the thread that made the value.
 
    races: made, value */
 #include "ithreads.h"

@@ -1,5 +1,5 @@
-/* Each thread says that it wants to go in, and looks whether the other does, without a lock: both may go in. Both flags
-   stand on one page, and no byte of it is stored to twice; still each is stored to by one thread and read by the other.
+/* Each thread announces that it wants to go in, and checks whether the other does, without a lock: both may go in. Both
+   flags are on one page, and no byte is stored to twice; still each is stored to by one thread and read by the other.
 
    races: first_wants, second_wants */
 #include "ithreads.h"

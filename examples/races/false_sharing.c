@@ -1,4 +1,4 @@
-/* Two counters of one page, each with a mutex of its own.
+/* Two counters on one page, each with a mutex of its own.
 
    races: none
    false sharing: left, right */

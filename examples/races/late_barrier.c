@@ -1,5 +1,5 @@
-/* A barrier that comes too late: one thread adds both halves up before it, where it should after. `right` is its own
-   half, and doesn't race; nor does what main reads after the joins.
+/* A barrier that comes too late: one thread adds up both halves before it, and not after it as it should. `right` is
+   its own half, and doesn't race; nor does what main reads after the joins.
 
    races: left */
 #include "ithreads.h"

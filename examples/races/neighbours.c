@@ -1,4 +1,4 @@
-/* A limit that is only read, beside a counter of another thread's alone: they share a page, and no byte.
+/* A limit that is only read, next to a counter that only another thread uses: they share a page, but no byte.
 
    races: none
    false sharing: count, limit */

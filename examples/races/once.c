@@ -1,4 +1,4 @@
-/* What is made once, by who comes first: each looks under the mutex whether it is there, and reads it later without.
+/* A value made once, by the first thread: each checks under the mutex if it exists, and later reads it without.
 
    races: none */
 #include "ithreads.h"

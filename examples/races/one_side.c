@@ -1,4 +1,4 @@
-/* A lock that one side takes only: who adds holds the mutex, who takes away doesn't.
+/* A lock that only one side takes: the thread that adds holds the mutex, and the one that subtracts doesn't.
 
    races: balance */
 #include "ithreads.h"

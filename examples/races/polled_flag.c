@@ -1,5 +1,5 @@
-/* A flag that is polled without a lock: a yield shows what others stored, and orders nothing. So neither the flag nor
-   the value that it announces is safe; the value seen is right only since the machine shows both stores at once.
+/* A flag that is polled without a lock: a yield makes other threads' stores visible, and orders nothing. So neither the
+   flag nor the value that it announces is safe; the value is right only because the machine shows both stores at once.
 
    races: flag, value */
 #include "ithreads.h"

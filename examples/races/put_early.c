@@ -1,5 +1,5 @@
-/* A text that is put out while another thread writes it: a put takes its bytes, as a load does. What stands behind the
-   text on its page is written too, and isn't put out.
+/* A text that is output while another thread writes it: a put reads its bytes, as a load does. The bytes after the text
+   on its page are written too, and aren't output.
 
    races: text */
 #include "ithreads.h"

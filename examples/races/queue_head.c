@@ -1,4 +1,4 @@
-/* A queue whose head is read outside the lock: two threads look there whether something is left, and take it under the
+/* A queue whose head is read outside the lock: two threads check there whether an item remains, and take it under the
    mutex. The items are only read, and don't race.
 
    races: head */

@@ -1,4 +1,4 @@
-/* A table that main fills before there are threads; they read it side by side, without a lock.
+/* A table that main fills before there are threads; they read it concurrently, without a lock.
 
    races: none */
 #include "ithreads.h"

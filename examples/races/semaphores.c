@@ -1,4 +1,4 @@
-/* A slot that goes from hand to hand by two semaphores: one says that it is full, the other that it is empty.
+/* A slot that two threads pass back and forth by two semaphores: one means that it is full, the other that it is empty.
 
    races: none */
 #include "ithreads.h"

@@ -1,5 +1,5 @@
-/* A condition whose variable is stored to without the mutex: who waits has it locked while it looks, but who stores
-   doesn't. With the two threads in another order the signal comes first, and is lost.
+/* A condition whose variable is stored to without the mutex: the waiting thread checks it with the mutex locked, but
+   the other stores without. With the two threads in another order the signal comes first, and is lost.
 
    races: ready */
 #include "ithreads.h"

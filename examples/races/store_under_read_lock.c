@@ -1,4 +1,4 @@
-/* Readers that store under a read lock: it keeps writers away, and not the other reader. What they look up doesn't
+/* Readers that store under a read lock: it excludes writers, but not the other reader. The table that they read doesn't
    race.
 
    races: hits */

@@ -1,4 +1,4 @@
-/* Two locks for one variable: each thread holds a mutex while it adds, and it isn't the same one.
+/* Two locks for one variable: each thread holds a mutex while it adds, but not the same one.
 
    races: total */
 #include "ithreads.h"

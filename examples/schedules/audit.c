@@ -1,5 +1,5 @@
-/* A deadlock: a thread moves money from account 0 to account 1, and another adds up both. Each locks both accounts, the
-   one account 0 first, and the other account 1. */
+/* A deadlock: a thread moves money from account 0 to account 1, and another adds up both. Each locks both accounts, but
+   the first locks account 0 first, and the other account 1. */
 #include <pthread.h>
 #include <stdio.h>
 

@@ -1,5 +1,5 @@
-/* A race: two threads pay in. What a thread reads under the lock it stores under the lock again, but it gives the lock
-   up in between. */
+/* A race: two threads make a deposit. A thread reads under the lock and stores under the lock, but it releases the lock
+   in between. */
 #include <pthread.h>
 #include <stdio.h>
 

@@ -1,5 +1,5 @@
-/* Messages on stderr as BSD has them: the program's name, the text, and what errno says, but not in the forms with x.
-   err and errx then exit with the code. */
+/* Messages on stderr, as in BSD: the program's name, the text, and, except in the forms with x, the text of errno. err
+   and errx then exit with the code. */
 #ifndef IT_ERR_H
 #define IT_ERR_H
 

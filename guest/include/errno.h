@@ -1,4 +1,4 @@
-/* The C library's errno.h, and glibc's names of the program. */
+/* The C library's errno.h, and glibc's variables with the program's name. */
 #include_next <errno.h>
 #ifndef IT_ERRNO_H
 #define IT_ERRNO_H

@@ -1,2 +1,2 @@
-/* The C library has it as sys/features.h. */
+/* The C library has this header as sys/features.h. */
 #include <sys/features.h>

@@ -1,6 +1,6 @@
-/* What a guest written in C without a C library needs: the environment calls as functions, the input, and what clang wants
-   of such a program. It is the only header, and there is no file beside it to link; for programs with a C library there are
-   pthread.h and semaphore.h beside it, and guest/README.md. A guest is an ordinary program:
+/* This header is all that a guest written in C without a C library needs: the environment calls as functions, the input, and the
+   functions that clang expects of such a program. No file is linked with it. For programs with a C library see pthread.h and
+   semaphore.h next to it, and guest/README.md. A guest is an ordinary program:
 
        #include "ithreads.h"
 
@@ -15,33 +15,33 @@
            return 0;                                                      // ends the run: end exit 0
        }
 
-   Names follow those of POSIX threads and semaphores. So does the order of the arguments, as far as both have them: there are
-   no attributes, a semaphore's `pshared` isn't there, and a new thread's number is it_thread_create's answer. Mutexes, semaphores, barriers,
-   conditions and reader-writer locks are numbered from 0 to 63; they need no memory, and only barriers must be initialised. An answer is an int: 0 or a positive number
-   where the call was done, a negated error number of enum it_error where it wasn't. Each function below says all of its answers; docs/MACHINE.md
-   has the rules.
+   Names follow those of POSIX threads and semaphores, and so does the order of the arguments that both have. There are no
+   attributes and no `pshared`, and it_thread_create returns the new thread's number. Mutexes, semaphores, barriers, conditions
+   and reader-writer locks have numbers from 0 to 63; they need no memory, and only barriers must be initialised. A result is an
+   int: 0 or a positive number if the call succeeded, or a negated error number of enum it_error. The comment of each function
+   lists its results; docs/MACHINE.md has the rules.
 
-   A thread sees what others stored only from its next call that returns; and what it stored, others see only after its next call. So
-   shared data needs no volatile: each call tells the compiler that all memory may have changed.
+   A thread sees other threads' stores only when its next call returns, and others see its stores only after its next call. So
+   shared data needs no volatile: each call is a compiler barrier for all memory.
 
-   What is reused after an edit of the input is a step: what a thread executes from one call to the next. It is reused where the thread's
-   registers at its start, with the pc, are as they were, and each page from which it loads, fetches or puts out has the bytes that it had.
-   docs/GUESTS.md says what follows from that, and what it is worth. In short,
+   After an edit of the input, steps are reused. A step is what a thread executes from one call to the next. It is reused if the
+   thread's registers at its start, with the pc, are as they were, and each page that it loads, fetches or outputs from has the
+   same bytes as before. docs/GUESTS.md explains what follows from that and what it is worth. In short:
 
-   - what belongs to one block of the work has a page of its own (IT_PAGE_ALIGNED), and a call (it_yield) stands between two blocks;
-   - a block is a function of its own (IT_NOINLINE), so that no register carries anything from it into the next block;
-   - each call below first clears the registers that a function may change freely (ra, t0 to t6, a2 to a6), for what a block left there
-     would be seen as a difference by the next step;
-   - the stack is pages too. What a block leaves there stays until something else is stored over it, and until then it counts for each step of the
-     thread that loads from that page, as returning from a function does. So data that an edit changes is better kept out of there. */
+   - give the data of each block of the work a page of its own (IT_PAGE_ALIGNED), and make a call (it_yield) between two blocks;
+   - make a block a function of its own (IT_NOINLINE), so that no register carries anything from it into the next block;
+   - each call below first clears the registers that a function may change freely (ra, t0 to t6, a2 to a6): the next step would
+     see what a block had left there as a difference;
+   - the stack is pages too. What a block stores there stays until it is overwritten, and until then it counts for each step of
+     the thread that loads from that page, as returning from a function does. So keep data that an edit changes off the stack. */
 #ifndef ITHREADS_H
 #define ITHREADS_H
 
-/* limits; docs/MACHINE.md has them all */
+/* limits; docs/MACHINE.md lists them all */
 enum it_limit {
     IT_PAGE = 4096,               /* bytes of a page */
-    IT_THREADS = 32,              /* threads of a run, ended ones and that of main counted */
-    IT_OBJECTS = 64,              /* mutexes, semaphores, barriers, conditions and reader-writer locks: so many of each */
+    IT_THREADS = 32,              /* threads of a run, including ended ones and main's */
+    IT_OBJECTS = 64,              /* of each kind: mutexes, semaphores, barriers, conditions, reader-writer locks */
     IT_INPUT_MOST = 1048576,      /* bytes of the input */
     IT_PUT_MOST = 4096,           /* bytes of one it_put */
     IT_STACK = 65536,             /* bytes of each thread's stack */
@@ -49,7 +49,7 @@ enum it_limit {
     IT_SEM_VALUE_MOST = 2147483647
 };
 
-/* errors, by Linux' numbers; an answer is one of them negated */
+/* error numbers, as on Linux; a failed call returns one of them negated */
 enum it_error {
     IT_EPERM = 1,
     IT_ESRCH = 3,
@@ -61,14 +61,14 @@ enum it_error {
     IT_EOVERFLOW = 75
 };
 
-/* it_barrier_wait's answer to the thread that came last */
+/* what it_barrier_wait returns in the last thread to arrive */
 enum { IT_BARRIER_SERIAL_THREAD = 1 };
 
-/* Begins at a page. Said of a structure, as in `struct IT_PAGE_ALIGNED sums { unsigned of[8]; };`, it also makes its size whole pages, so
-   that nothing else stands on them. Said of a variable it doesn't: what follows may stand on its last page. */
+/* Aligned to a page. On a structure, as in `struct IT_PAGE_ALIGNED sums { unsigned of[8]; };`, its size becomes whole
+   pages, so it shares no page. On a variable it doesn't: other data may follow on the last page. */
 #define IT_PAGE_ALIGNED __attribute__((aligned(4096)))
 
-/* A function that stays one: the compiler doesn't put its instructions into its callers'. */
+/* A function that the compiler must not inline. */
 #define IT_NOINLINE __attribute__((noinline))
 
 /* ---------------------------------------------------------------------------------------------- how a call is made ---- */
@@ -86,7 +86,7 @@ enum it_call {
     "mv a2, zero\n\tmv a3, zero\n\tmv a4, zero\n\tmv a5, zero\n\tmv a6, zero\n\t"
 #define IT_CLEARED "ra", "t0", "t1", "t2", "t3", "t4", "t5", "t6", "a2", "a3", "a4", "a5", "a6", "memory"
 
-/* guest/build defines these for --yield-every and --time counted: a call begins the countdown to the next yield anew, and
+/* guest/build defines these for --yield-every and --time counted: a call restarts the countdown to the next yield, and
    is counted. */
 #ifdef IT_YIELD_EVERY
 extern _Thread_local int it_countdown;
@@ -101,7 +101,7 @@ extern _Thread_local unsigned it_calls;
 #define IT_COUNT_CALL (void)0
 #endif
 
-/* Makes a call: gives what it leaves in a0, and in *value what it leaves in a1. */
+/* Makes a call: returns its a0, and stores its a1 in *value. */
 static inline __attribute__((always_inline)) int it_call_value(enum it_call number, unsigned first, unsigned second, unsigned *value)
 {
     register unsigned a0 __asm__("a0") = first;
@@ -114,7 +114,7 @@ static inline __attribute__((always_inline)) int it_call_value(enum it_call numb
     return (int)a0;
 }
 
-/* Makes a call: gives what it leaves in a0. */
+/* Makes a call: returns its a0. */
 static inline __attribute__((always_inline)) int it_call(enum it_call number, unsigned first, unsigned second)
 {
     unsigned value;
@@ -132,21 +132,21 @@ static inline __attribute__((always_inline, noreturn)) void it_last_call(enum it
 
 /* ---------------------------------------------------------------------------------------------- input and output ---- */
 
-/* The input's first byte. The bytes from its length on are zero, up to IT_INPUT_MOST; they may be read. */
+/* The input's first byte. The bytes after the input's end, up to IT_INPUT_MOST, are zero and may be read. */
 static inline const unsigned char *it_input(void)
 {
     return (const unsigned char *)0xC0001000u;
 }
 
-/* The input's length in bytes, 0 to IT_INPUT_MOST. It stands on a page of its own: a step that asks for it is executed again when the length
-   changes, and one that holds it in a register too. */
+/* The input's length in bytes, 0 to IT_INPUT_MOST. It has a page of its own: if the length changes, a step that calls
+   this is executed again, and so is a step that has the length in a register. */
 static inline unsigned it_input_length(void)
 {
     return *(const volatile unsigned *)0xC0000000u;
 }
 
-/* For all that follows a program with a C library, built by `guest/build --libc`, has stdio.h, pthread.h and semaphore.h; of this header it has what
-   stands above, and it_yield. */
+/* The rest is for programs without a C library. A program with one, built by `guest/build --libc`, has stdio.h,
+   pthread.h and semaphore.h instead; of this header it has the part above, and it_yield. */
 #ifdef IT_WITH_C_LIBRARY
 
 #include <sched.h>
@@ -158,16 +158,16 @@ static inline int it_yield(void)
 
 #else
 
-/* Appends bytes to the output. Answers count; -IT_EINVAL where count is above IT_PUT_MOST; -IT_EFAULT where a byte isn't readable. The step
-   that makes the call has then loaded these bytes, and what stands beside them on their pages counts too. The next step starts with the count in
-   two registers, so it is executed again when the count changes. */
+/* Appends bytes to the output. Returns count; -IT_EINVAL if count is above IT_PUT_MOST; -IT_EFAULT if a byte isn't
+   readable. The step that makes the call loads these bytes, so whatever else is on their pages counts too. The next
+   step starts with the count in two registers, so it is executed again when the count changes. */
 static inline int it_put(const void *bytes, unsigned count)
 {
     return it_call(IT_CALL_PUT, (unsigned)bytes, count);
 }
 
-/* Appends any number of bytes to the output, by as many calls as it takes. Answers count; or what the first call answered that failed, and
-   then the bytes before it are in the output. */
+/* Appends any number of bytes to the output, by as many calls as it takes. Returns count; or the result of the first
+   call that failed, in which case the bytes before it are in the output. */
 static inline int it_put_all(const void *bytes, unsigned count)
 {
     const unsigned char *from = (const unsigned char *)bytes;
@@ -182,7 +182,7 @@ static inline int it_put_all(const void *bytes, unsigned count)
     return (int)count;
 }
 
-/* Ends the run with the code, whatever other threads do. It doesn't return. */
+/* Ends the run with the code, even if other threads still run. It doesn't return. */
 static inline __attribute__((noreturn)) void it_exit(unsigned code)
 {
     it_last_call(IT_CALL_EXIT, code);
@@ -190,14 +190,14 @@ static inline __attribute__((noreturn)) void it_exit(unsigned code)
 
 /* ---------------------------------------------------------------------------------------------- threads ---- */
 
-/* it_thread_create(function, argument): a new thread that calls function(argument), an `unsigned function(unsigned)`; what it returns is the
-   thread's value, as by it_thread_exit. Answers the thread's number, 1 to 31; -IT_EAGAIN where there are IT_THREADS threads.
+/* it_thread_create(function, argument): creates a thread that calls function(argument), an `unsigned function(unsigned)`. The function's
+   result is the thread's value, as with it_thread_exit. Returns the thread's number, 1 to 31; -IT_EAGAIN if IT_THREADS threads exist.
 
-   The machine starts a thread at an address with one word, all other registers zero, and nothing to return to. So each use of this macro has
-   an entry of its own, the three instructions at 1:, which call the function and then make thread_exit. The function is in the call
-   instruction, and nothing is passed in memory: a table of functions and arguments would be a page that every new thread reads, and that
-   changes with each argument. Therefore `function` must be the name of a function and not a variable; for one that is only known when the
-   guest runs there is it_thread_create_at. */
+   The machine starts a thread at an address with one word in a register, all other registers zero, and no return address. So each use of
+   this macro has an entry of its own, the three instructions at 1:, which call the function and then make thread_exit. The function is
+   in the call instruction, and nothing is passed in memory: each new thread would read the page of a table of functions and arguments,
+   and that page would change with each argument. Therefore `function` must be the name of a function and not a variable. For a function
+   that is known only at run time there is it_thread_create_at. */
 #define it_thread_create(function, argument)                                                                                     \
     __extension__({                                                                                                              \
         const unsigned it_argument_of_create__ = (unsigned)(argument);                                                           \
@@ -213,22 +213,22 @@ static inline __attribute__((noreturn)) void it_exit(unsigned code)
         (int)it_a0_of_create__;                                                                                                  \
     })
 
-/* A new thread that starts at the entry with the argument. The entry must not return: it ends by it_thread_exit. Answers as
-   it_thread_create, and -IT_EINVAL where the entry is no multiple of 4. */
+/* Creates a thread that starts at the entry with the argument. The entry must not return: it ends by it_thread_exit.
+   Returns as it_thread_create, and -IT_EINVAL if the entry isn't a multiple of 4. */
 static inline int it_thread_create_at(void (*entry)(unsigned), unsigned argument)
 {
     return it_call(IT_CALL_CREATE, (unsigned)entry, argument);
 }
 
-/* Ends the calling thread with the value; mutexes that it holds stay held. It doesn't return. Where main's thread ends so, the run goes on. */
+/* Ends the calling thread with the value; it keeps the mutexes that it holds. Doesn't return. If main's thread ends so, the run continues. */
 static inline __attribute__((noreturn)) void it_thread_exit(unsigned value)
 {
     it_last_call(IT_CALL_THREAD_EXIT, value);
 }
 
-/* Waits until the thread has ended. Answers 0, and *value is the thread's value (value may be null); -IT_ESRCH: no such thread; -IT_EDEADLK:
-   the caller itself; -IT_EINVAL: somebody waits for it or has waited, the caller counted. The value comes in a register, so the step after the
-   call is executed again when it changes. */
+/* Waits until the thread has ended. Returns 0 and stores the thread's value in *value, unless value is null; -IT_ESRCH if
+   there is no such thread; -IT_EDEADLK if it is the caller; -IT_EINVAL if a thread, maybe the caller, has joined it or is
+   waiting to. The value comes in a register, so the step after the call is executed again when the value changes. */
 static inline int it_thread_join(unsigned thread, unsigned *value)
 {
     unsigned left;
@@ -238,7 +238,7 @@ static inline int it_thread_join(unsigned thread, unsigned *value)
     return answer;
 }
 
-/* The caller's number: 0 for the thread of main. No call is made. */
+/* The caller's number: 0 for the thread of main. It makes no call. */
 static inline unsigned it_thread_self(void)
 {
     unsigned thread;
@@ -246,7 +246,7 @@ static inline unsigned it_thread_self(void)
     return thread;
 }
 
-/* Ends a step, makes its stores seen, and shows what others stored. Answers 0. */
+/* Ends the step: other threads then see its stores, and the caller sees theirs. Returns 0. */
 static inline int it_yield(void)
 {
     return it_call(IT_CALL_YIELD, 0, 0);
@@ -254,19 +254,19 @@ static inline int it_yield(void)
 
 /* ---------------------------------------------------------------------------------------------- mutexes ---- */
 
-/* Waits until the mutex is the caller's. Answers 0; -IT_EINVAL: number above 63; -IT_EDEADLK: it is the caller's already. */
+/* Waits until the caller has the mutex. Returns 0; -IT_EINVAL: number above 63; -IT_EDEADLK: the caller has it already. */
 static inline int it_mutex_lock(unsigned mutex)
 {
     return it_call(IT_CALL_LOCK, mutex, 0);
 }
 
-/* Takes the mutex if it is free. Answers 0; -IT_EINVAL: number above 63; -IT_EBUSY: somebody has it, maybe the caller. */
+/* Takes the mutex if it is free. Returns 0; -IT_EINVAL: number above 63; -IT_EBUSY: it is held, maybe by the caller. */
 static inline int it_mutex_trylock(unsigned mutex)
 {
     return it_call(IT_CALL_TRYLOCK, mutex, 0);
 }
 
-/* Gives the mutex to who waits first, or sets it free. Answers 0; -IT_EINVAL: number above 63; -IT_EPERM: it isn't the caller's. */
+/* Passes the mutex to the first waiting thread, or frees it. Returns 0; -IT_EINVAL: number above 63; -IT_EPERM: the caller doesn't hold it. */
 static inline int it_mutex_unlock(unsigned mutex)
 {
     return it_call(IT_CALL_UNLOCK, mutex, 0);
@@ -274,25 +274,25 @@ static inline int it_mutex_unlock(unsigned mutex)
 
 /* ---------------------------------------------------------------------------------------------- semaphores ---- */
 
-/* Sets a semaphore's value; all begin with 0. Answers 0; -IT_EINVAL: number above 63 or value above IT_SEM_VALUE_MOST; -IT_EBUSY: somebody waits. */
+/* Sets a semaphore's value, at first 0. Returns 0; -IT_EINVAL: number above 63 or value above IT_SEM_VALUE_MOST; -IT_EBUSY: a thread waits. */
 static inline int it_sem_init(unsigned semaphore, unsigned value)
 {
     return it_call(IT_CALL_SEM_INIT, semaphore, value);
 }
 
-/* Waits until the value is above 0, and takes one. Answers 0; -IT_EINVAL: number above 63. */
+/* Waits until the value is above 0, then subtracts 1. Returns 0; -IT_EINVAL: number above 63. */
 static inline int it_sem_wait(unsigned semaphore)
 {
     return it_call(IT_CALL_SEM_WAIT, semaphore, 0);
 }
 
-/* Takes one if the value is above 0. Answers 0; -IT_EINVAL: number above 63; -IT_EAGAIN: the value is 0. */
+/* Subtracts 1 if the value is above 0. Returns 0; -IT_EINVAL: number above 63; -IT_EAGAIN: the value is 0. */
 static inline int it_sem_trywait(unsigned semaphore)
 {
     return it_call(IT_CALL_SEM_TRYWAIT, semaphore, 0);
 }
 
-/* Lets who waits first go on, or adds one. Answers 0; -IT_EINVAL: number above 63; -IT_EOVERFLOW: the value is IT_SEM_VALUE_MOST. */
+/* Wakes the first waiting thread, or else adds 1. Returns 0; -IT_EINVAL: number above 63; -IT_EOVERFLOW: the value is IT_SEM_VALUE_MOST. */
 static inline int it_sem_post(unsigned semaphore)
 {
     return it_call(IT_CALL_SEM_POST, semaphore, 0);
@@ -300,14 +300,14 @@ static inline int it_sem_post(unsigned semaphore)
 
 /* ---------------------------------------------------------------------------------------------- barriers ---- */
 
-/* Sets how many threads meet. Answers 0; -IT_EINVAL: number above 63, count 0 or above IT_BARRIER_MOST; -IT_EBUSY: somebody waits. */
+/* Sets how many threads meet. Returns 0; -IT_EINVAL: number above 63, count 0 or above IT_BARRIER_MOST; -IT_EBUSY: a thread waits. */
 static inline int it_barrier_init(unsigned barrier, unsigned count)
 {
     return it_call(IT_CALL_BARRIER_INIT, barrier, count);
 }
 
-/* Waits until so many threads have come. Answers IT_BARRIER_SERIAL_THREAD to the last, 0 to the others; -IT_EINVAL: number above 63, or not
-   initialised. */
+/* Waits until as many threads wait as it_barrier_init has set. Returns IT_BARRIER_SERIAL_THREAD in the last of them and
+   0 in the others; -IT_EINVAL: number above 63, or not initialised. */
 static inline int it_barrier_wait(unsigned barrier)
 {
     return it_call(IT_CALL_BARRIER_WAIT, barrier, 0);
@@ -315,21 +315,21 @@ static inline int it_barrier_wait(unsigned barrier)
 
 /* ---------------------------------------------------------------------------------------------- conditions ---- */
 
-/* Gives the mutex up and waits for the condition, and then for the mutex. There are no spurious wake-ups, but another thread may have had the
-   mutex in between. Answers 0; -IT_EINVAL: a number above 63, or others wait for the condition with another mutex; -IT_EPERM: the mutex isn't
-   the caller's. */
+/* Releases the mutex, waits for the condition, and then waits for the mutex. There are no spurious wake-ups, but
+   another thread may have had the mutex in between. Returns 0; -IT_EINVAL: a number above 63, or others wait for the
+   condition with another mutex; -IT_EPERM: the caller doesn't hold the mutex. */
 static inline int it_cond_wait(unsigned condition, unsigned mutex)
 {
     return it_call(IT_CALL_COND_WAIT, condition, mutex);
 }
 
-/* Wakes who waits first, if somebody does. Answers 0; -IT_EINVAL: number above 63. */
+/* Wakes the first waiting thread, if there is one. Returns 0; -IT_EINVAL: number above 63. */
 static inline int it_cond_signal(unsigned condition)
 {
     return it_call(IT_CALL_SIGNAL, condition, 0);
 }
 
-/* Wakes all who wait, in their order. Answers 0; -IT_EINVAL: number above 63. */
+/* Wakes all waiting threads, in their order. Returns 0; -IT_EINVAL: number above 63. */
 static inline int it_cond_broadcast(unsigned condition)
 {
     return it_call(IT_CALL_BROADCAST, condition, 0);
@@ -337,31 +337,31 @@ static inline int it_cond_broadcast(unsigned condition)
 
 /* ---------------------------------------------------------------------------------------------- reader-writer locks ---- */
 
-/* Waits until no thread writes and none that came before waits, and reads from then on beside other readers. Answers 0; -IT_EINVAL: number above 63;
-   -IT_EDEADLK: the caller writes; -IT_EAGAIN: the caller reads already. */
+/* Waits until no thread holds the lock to write and no earlier thread waits for it, then takes it to read, along with other readers.
+   Returns 0; -IT_EINVAL: number above 63; -IT_EDEADLK: the caller holds it to write; -IT_EAGAIN: the caller holds it to read. */
 static inline int it_rwlock_rdlock(unsigned lock)
 {
     return it_call(IT_CALL_RDLOCK, lock, 0);
 }
 
-/* Waits until the lock is the caller's alone, and writes from then on. Answers 0; -IT_EINVAL: number above 63; -IT_EDEADLK: the caller writes or
-   reads. */
+/* Waits until no thread holds the lock, then takes it to write. Returns 0; -IT_EINVAL: number above 63; -IT_EDEADLK:
+   the caller already holds it, to write or to read. */
 static inline int it_rwlock_wrlock(unsigned lock)
 {
     return it_call(IT_CALL_WRLOCK, lock, 0);
 }
 
-/* Takes the lock to write if nobody holds it. Answers 0; -IT_EINVAL: number above 63; -IT_EBUSY: somebody holds it, maybe the caller. */
+/* Takes the lock to write if no thread holds it. Returns 0; -IT_EINVAL: number above 63; -IT_EBUSY: it is held, maybe by the caller. */
 static inline int it_rwlock_trywrlock(unsigned lock)
 {
     return it_call(IT_CALL_TRYWRLOCK, lock, 0);
 }
 
-/* There is no call that only tries to read: the compiler refuses this one. */
+/* No call tries to lock to read, so the compiler refuses this one. */
 int it_rwlock_tryrdlock(unsigned lock) __attribute__((error("a read lock can't be tried. Wait for it by it_rwlock_rdlock, or try to write by it_rwlock_trywrlock.")));
 
-/* Lets go of a lock that the caller holds. Who waits to read, before the first who waits to write, reads then; and where nobody holds the lock, who
-   waits first writes. Answers 0; -IT_EINVAL: number above 63; -IT_EPERM: the caller doesn't hold it. */
+/* Releases a lock that the caller holds. If no writer holds it, the threads that wait to read ahead of the first that waits to write take it; if then
+   no thread holds it, the first waiting thread takes it to write. Returns 0; -IT_EINVAL: number above 63; -IT_EPERM: the caller doesn't hold it. */
 static inline int it_rwlock_unlock(unsigned lock)
 {
     return it_call(IT_CALL_RWUNLOCK, lock, 0);
@@ -369,7 +369,7 @@ static inline int it_rwlock_unlock(unsigned lock)
 
 /* ---------------------------------------------------------------------------------------------- text ---- */
 
-/* Writes a number in decimal, 1 to 10 digits and nothing behind them. Gives where the next byte goes. */
+/* Writes a number in decimal, 1 to 10 digits and nothing after them. Returns where the next byte goes. */
 static inline char *it_decimal(char *to, unsigned number)
 {
     static const unsigned powers[] = { 1000000000, 100000000, 10000000, 1000000, 100000, 10000, 1000, 100, 10, 1 };
@@ -380,14 +380,14 @@ static inline char *it_decimal(char *to, unsigned number)
         char digit = '0';
         for (; number >= powers[k]; digit++) {
             number -= powers[k];
-            __asm__("" : "+r"(number)); /* or the compiler makes a division of this loop, which takes longer */
+            __asm__("" : "+r"(number)); /* else the compiler makes a slower division of this loop */
         }
         *to++ = digit;
     }
     return to;
 }
 
-/* Writes a text without its final zero. Gives where the next byte goes. */
+/* Writes a text without its final zero. Returns where the next byte goes. */
 static inline char *it_text(char *to, const char *text)
 {
     while (*text)
@@ -397,10 +397,10 @@ static inline char *it_text(char *to, const char *text)
 
 /* ------------------------------------------------------------------------ what clang wants of a program without a C library ---- */
 
-/* weak: two files of a guest may include this header. What isn't used the linker leaves out. */
+/* weak, since two files of a guest may include this header; the linker drops what isn't used */
 #define IT_LIBRARY __attribute__((weak))
 
-/* Where a guest starts: main's value ends the run. */
+/* The start of a guest: main's value ends the run. */
 IT_LIBRARY __attribute__((naked, used)) void _start(void)
 {
     __asm__("call main\n\tli a7, 0\n\tecall");
@@ -452,8 +452,8 @@ IT_LIBRARY int memcmp(const void *one, const void *other, __SIZE_TYPE__ count)
     return 0;
 }
 
-/* RV32I has no multiplication and no division: clang calls these where a program has *, / or %. A product takes some 6 instructions for each
-   bit of the smaller factor, a quotient some 12 for each of its bits. For RV32IM only quotients of long long are calls. */
+/* RV32I has no multiplication and no division: clang calls these for *, / and %. A product takes some 6 instructions for each
+   bit of the smaller factor, a quotient some 12 for each bit of itself. On RV32IM only quotients of long long are calls. */
 IT_LIBRARY unsigned __mulsi3(unsigned a, unsigned b)
 {
     unsigned product = 0, few = a < b ? a : b;
@@ -463,7 +463,7 @@ IT_LIBRARY unsigned __mulsi3(unsigned a, unsigned b)
     return product;
 }
 
-/* Both of a division, by shifting and subtracting. By 0 the quotient is all ones and the remainder is the number, as RISC-V has it. */
+/* Quotient and remainder, by shifting and subtracting. Division by 0 gives all ones and the number as the remainder, as on RISC-V. */
 #define IT_DIVIDE(name, type, top)                                                                                               \
     static inline type name(type number, type by, type *remainder)                                                               \
     {                                                                                                                            \
@@ -514,7 +514,7 @@ IT_LIBRARY int __modsi3(int number, int by)
     return number < 0 ? (int)(0u - remainder) : (int)remainder;
 }
 
-/* the same of long long; at the -O2 of guest/build shifts of it need no function */
+/* the same for long long; at guest/build's -O2, shifts of it need no function */
 IT_LIBRARY unsigned long long __muldi3(unsigned long long a, unsigned long long b)
 {
     unsigned long long product = 0, few = a < b ? a : b;

@@ -1,4 +1,4 @@
-/* Messages in the program's own language: each text is its own translation, as where no catalogue is found. */
+/* Translated messages: each text is its own translation, as if no catalogue were found. */
 #ifndef IT_LIBINTL_H
 #define IT_LIBINTL_H
 

@@ -1,5 +1,5 @@
-/* The C library's sched.h, and what of POSIX.1-2017 <sched.h> it leaves out. Policies and priorities are kept for who
-   asks for them, and change nothing. */
+/* The C library's sched.h, and what it omits of POSIX.1-2017 <sched.h>. Policies and priorities are kept, so that they
+   can be read back, and have no effect. */
 #include_next <sched.h>
 #ifndef IT_SCHED_H
 #define IT_SCHED_H
@@ -8,11 +8,11 @@
 extern "C" {
 #endif
 
-/* SCHED_OTHER has the priority 0, SCHED_FIFO and SCHED_RR have 1 to 99. EINVAL: there is no such policy. */
+/* SCHED_OTHER has the priority 0, SCHED_FIFO and SCHED_RR have 1 to 99. EINVAL if there is no such policy. */
 int sched_get_priority_min(int policy);
 int sched_get_priority_max(int policy);
 
-/* The process 0 or getpid() alone, else ESRCH. EINVAL: the policy has no such priority. */
+/* ESRCH unless the process is 0 or getpid(). EINVAL if the policy has no such priority. */
 int sched_setscheduler(pid_t process, int policy, const struct sched_param *parameters);
 int sched_getscheduler(pid_t process);
 int sched_setparam(pid_t process, const struct sched_param *parameters);
@@ -20,8 +20,8 @@ int sched_getparam(pid_t process, struct sched_param *parameters);
 
 #if __GNU_VISIBLE
 
-/* Linux's sets of processors. Here are 4, and on which a thread runs changes nothing: what is set is kept. EINVAL: none
-   of the four is in the set, or it is too small. */
+/* Linux's sets of processors. There are 4 here, and a set has no effect but is kept. EINVAL if none of the four is in
+   the set, or if the size is too small. */
 #define CPU_SETSIZE 1024
 typedef struct { unsigned bits[CPU_SETSIZE / 32]; } cpu_set_t;
 #define CPU_ZERO(set) ((void)(*(set) = (cpu_set_t){ { 0 } }))

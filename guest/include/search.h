@@ -1,4 +1,4 @@
-/* The C library's search.h, and what of POSIX.1-2017 <search.h> it leaves out. */
+/* The C library's search.h, and what it omits of POSIX.1-2017 <search.h>. */
 #include_next <search.h>
 #ifndef IT_SEARCH_H
 #define IT_SEARCH_H

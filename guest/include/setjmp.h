@@ -1,4 +1,4 @@
-/* The C library's setjmp.h, and what of POSIX.1-2017 <setjmp.h> it leaves out. */
+/* The C library's setjmp.h, and what it omits of POSIX.1-2017 <setjmp.h>. */
 #include_next <setjmp.h>
 #ifndef IT_SETJMP_H
 #define IT_SETJMP_H
@@ -9,7 +9,7 @@
 extern "C" {
 #endif
 
-/* sigsetjmp keeps which signals the thread blocks if `save` isn't 0, and siglongjmp then blocks these again. */
+/* If `save` isn't 0, sigsetjmp saves the thread's set of blocked signals, and siglongjmp restores it. */
 typedef struct {
     jmp_buf registers;
     int saved;

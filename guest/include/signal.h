@@ -1,12 +1,12 @@
-/* Signals, POSIX.1-2017 <signal.h>, of a program that gets none but its own: by raise, kill, killpg, sigqueue and
-   pthread_kill. Numbers, and what a signal does that isn't caught, are Linux's; a signal that would end or stop the
-   process ends the guest with a message and the code 128 + the number. A wild access or a division by zero is no signal.
+/* Signals, POSIX.1-2017 <signal.h>, for a program that gets only those that it sends itself: by raise, kill, killpg,
+   sigqueue and pthread_kill. Numbers and default actions are Linux's; a signal that would end or stop the process ends
+   the guest with a message and the code 128 + its number. An invalid access or a division by zero raises no signal.
 
-   A thread takes a signal of its own, or of the process, before the call returns that sends it, unless it blocks it. A
-   signal to another thread waits until that thread calls a function of this header or sleeps: nothing interrupts a
-   thread.
+   The sender takes a signal to itself or to the process before the sending call returns, unless it blocks the signal.
+   Another thread takes its signals when it next sends a signal, sets its mask, waits for a signal or sleeps: nothing
+   interrupts it.
 
-   An answer is 0; or -1, and errno says why. */
+   A function returns 0; or -1, and sets errno. */
 #ifndef _SIGNAL_H_
 #define _SIGNAL_H_
 
@@ -60,7 +60,7 @@ typedef unsigned pthread_t;
 #define SIGPOLL SIGIO
 #define SIGPWR 30
 #define SIGSYS 31
-#define SIGRTMIN 34 /* those up to SIGRTMAX are queued as often as they are sent */
+#define SIGRTMIN 34 /* signals from here to SIGRTMAX are queued each time they are sent */
 #define SIGRTMAX 64
 #define NSIG 65
 #define _NSIG NSIG
@@ -105,7 +105,7 @@ struct sigevent {
     void *sigev_notify_attributes;
 };
 
-/* SA_RESTART, SA_ONSTACK and those of children change nothing. A handler's third argument is null. */
+/* SA_RESTART, SA_ONSTACK and the flags for children have no effect. A handler's third argument is null. */
 #define SA_NOCLDSTOP 1
 #define SA_NOCLDWAIT 2
 #define SA_SIGINFO 4
@@ -122,47 +122,47 @@ struct sigaction {
     int sa_flags;
 };
 
-/* EINVAL: there is no such signal, or SIGKILL or SIGSTOP is to be caught. */
+/* EINVAL if there is no such signal, or if an action is given for SIGKILL or SIGSTOP. */
 int sigaction(int number, const struct sigaction *__restrict action, struct sigaction *__restrict old);
 
-/* sigaction with SA_RESTART. Answers what was before, or SIG_ERR. */
+/* As sigaction with SA_RESTART. Returns the previous handler, or SIG_ERR. */
 _sig_func_ptr signal(int number, _sig_func_ptr handler);
 
-/* EINVAL: there is no such signal; with 0 nothing is sent. ESRCH: the process is another. EAGAIN: 128 signals wait. */
+/* EINVAL if there is no such signal; 0 sends nothing. ESRCH if the process is another. EAGAIN if 128 are pending. */
 int raise(int number);
 int kill(pid_t process, int number);
 int killpg(pid_t group, int number);
 int sigqueue(pid_t process, int number, const union sigval value);
 
-/* The same, and the answer is the error. */
+/* The same for a thread; returns the error. */
 int pthread_kill(pthread_t thread, int number);
 
-/* EINVAL: there is no such signal. */
+/* EINVAL if there is no such signal. */
 int sigemptyset(sigset_t *set);
 int sigfillset(sigset_t *set);
 int sigaddset(sigset_t *set, int number);
 int sigdelset(sigset_t *set, int number);
 int sigismember(const sigset_t *set, int number);
 
-/* A thread begins with the set of its creator. pthread_sigmask answers the error. */
+/* A thread inherits its creator's set. pthread_sigmask returns the error. */
 #define SIG_BLOCK 0
 #define SIG_UNBLOCK 1
 #define SIG_SETMASK 2
 int sigprocmask(int how, const sigset_t *__restrict set, sigset_t *__restrict old);
 int pthread_sigmask(int how, const sigset_t *__restrict set, sigset_t *__restrict old);
 
-/* The signals that the thread blocks and that wait for it or for the process. */
+/* Gets the signals that are pending for the thread or the process and that the thread blocks. */
 int sigpending(sigset_t *set);
 
-/* Wait until a handler has returned, and fail with EINTR. */
+/* Wait until a handler has returned, then fail with EINTR. */
 int sigsuspend(const sigset_t *mask);
 int pause(void);
 
-/* Waits for one of the set, and takes it. sigwait answers the error, and sigwaitinfo the number. */
+/* Wait for a signal of the set and take it. sigwait returns the error, and sigwaitinfo the signal's number. */
 int sigwait(const sigset_t *__restrict set, int *__restrict number);
 int sigwaitinfo(const sigset_t *__restrict set, siginfo_t *__restrict info);
 
-/* There with no build: no signal can be waited for up to a time, and handlers have the thread's stack. */
+/* Not in the library: no wait for a signal has a time limit, and handlers run on the thread's stack. */
 int sigtimedwait(const sigset_t *__restrict set, siginfo_t *__restrict info, const struct timespec *__restrict time);
 #define SS_ONSTACK 1
 #define SS_DISABLE 2

@@ -1,4 +1,4 @@
-/* BSD's codes of an exit. */
+/* BSD's exit codes. */
 #ifndef IT_SYSEXITS_H
 #define IT_SYSEXITS_H
 

@@ -1,5 +1,5 @@
-/* Threads of C11, <threads.h>: each function is one of pthread.h, which says what there is. thrd_sleep, mtx_timedlock
-   and cnd_timedwait, which wait for a time, are there with `guest/build --time counted` alone. */
+/* C11 threads, <threads.h>: each function is based on one of pthread.h, where the limits are. thrd_sleep, mtx_timedlock
+   and cnd_timedwait, which wait for a time, exist only with `guest/build --time counted`. */
 #ifndef IT_THREADS_H
 #define IT_THREADS_H
 
@@ -27,7 +27,7 @@ enum { thrd_success, thrd_busy, thrd_error, thrd_nomem, thrd_timedout };
 
 enum { mtx_plain = 0, mtx_recursive = 1, mtx_timed = 2 };
 
-/* thrd_error: there are 32 threads. */
+/* thrd_error if there are 32 threads. */
 int thrd_create(thrd_t *thread, thrd_start_t function, void *argument);
 int thrd_equal(thrd_t one, thrd_t other);
 thrd_t thrd_current(void);
@@ -37,20 +37,20 @@ void thrd_exit(int value) __attribute__((__noreturn__));
 int thrd_detach(thrd_t thread);
 int thrd_join(thrd_t thread, int *value);
 
-/* thrd_error: 63 are in use. */
+/* thrd_error if 63 are in use. */
 int mtx_init(mtx_t *mutex, int type);
 void mtx_destroy(mtx_t *mutex);
 
-/* thrd_error: it is the caller's already, and isn't recursive. */
+/* thrd_error if the caller already holds it and it isn't recursive. */
 int mtx_lock(mtx_t *mutex);
 
-/* thrd_busy: somebody has it. */
+/* thrd_busy if a thread holds it. */
 int mtx_trylock(mtx_t *mutex);
 
-/* thrd_timedout: the time is over. */
+/* thrd_timedout if the time has passed. */
 int mtx_timedlock(mtx_t *__restrict mutex, const struct timespec *__restrict time);
 
-/* thrd_error: it isn't the caller's. */
+/* thrd_error if the caller doesn't hold it. */
 int mtx_unlock(mtx_t *mutex);
 
 int cnd_init(cnd_t *condition);
@@ -59,10 +59,10 @@ int cnd_signal(cnd_t *condition);
 int cnd_broadcast(cnd_t *condition);
 int cnd_wait(cnd_t *condition, mtx_t *mutex);
 
-/* thrd_timedout: the time is over. */
+/* thrd_timedout if the time has passed. */
 int cnd_timedwait(cnd_t *__restrict condition, mtx_t *__restrict mutex, const struct timespec *__restrict time);
 
-/* thrd_error: 128 have been made. */
+/* thrd_error if 128 keys have been created, deleted ones included. */
 int tss_create(tss_t *key, tss_dtor_t destructor);
 void tss_delete(tss_t key);
 void *tss_get(tss_t key);

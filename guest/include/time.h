@@ -1,5 +1,5 @@
-/* The C library's time.h, and what of POSIX.1-2017 <time.h> it leaves out. What asks for the time or waits for one is
-   there with `guest/build --time counted` alone. */
+/* The C library's time.h, and what it omits of POSIX.1-2017 <time.h>. Functions that get the time or wait for a time
+   exist only with `guest/build --time counted`. */
 #include_next <time.h>
 #ifndef IT_TIME_H
 #define IT_TIME_H

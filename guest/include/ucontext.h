@@ -1,5 +1,5 @@
-/* Contexts of POSIX.1-2004 <ucontext.h>: a thread's registers, a stack, and which signals it blocks. A stack is memory of
-   the program's, and nothing says that it is full. */
+/* Contexts of POSIX.1-2004 <ucontext.h>: a thread's registers, a stack, and the set of blocked signals. The program
+   provides the stack's memory, and an overflow isn't detected. */
 #ifndef IT_UCONTEXT_H
 #define IT_UCONTEXT_H
 
@@ -14,18 +14,18 @@ typedef struct {
 } mcontext_t;
 
 typedef struct ucontext {
-    mcontext_t uc_mcontext; /* guest/lib/more/contexts.c has it first */
+    mcontext_t uc_mcontext; /* first, as guest/lib/more/contexts.c relies on that */
     struct ucontext *uc_link;
     stack_t uc_stack;
     sigset_t uc_sigmask;
 } ucontext_t;
 
-/* Answers 0, and once more for each setcontext. */
+/* Returns 0, and again for each setcontext. */
 int getcontext(ucontext_t *context) __attribute__((__returns_twice__));
 int setcontext(const ucontext_t *context);
 int swapcontext(ucontext_t *__restrict old, const ucontext_t *__restrict context);
 
-/* The function gets `count` words. When it returns its context's uc_link goes on, or, if that is null, the thread ends. */
+/* The function gets `count` words. When it returns, uc_link is resumed, or the thread ends if that is null. */
 void makecontext(ucontext_t *context, void (*function)(void), int count, ...);
 
 #ifdef __cplusplus

@@ -1,10 +1,10 @@
-/* Products and quotients of integers, which RV32I has no instructions for: the compiler calls these functions, and so
-   do its own for float and double. They stand in place of the compiler's, which take several times as long where a
-   number is small or where the divisor is 10, as in all that prints numbers. A quotient by 0 is all ones, and the
-   remainder is the number, as RISC-V has it.
+/* Products and quotients of integers, for which RV32I has no instructions: the compiler calls these functions, and so
+   do its own functions for float and double. They replace the compiler's, which take several times as long if a number
+   is small or if the divisor is 10, as in code that prints numbers. Division by 0 gives all ones, and the number as the
+   remainder, as on RISC-V.
 
-   RV32IM has instructions for 32 bits, and the compiler makes products of 64 bits of them. So there only the quotients
-   of 64 bits are left. */
+   RV32IM has instructions for 32 bits, and the compiler makes products of 64 bits from them. So there only the
+   quotients of 64 bits are needed. */
 
 #include "library.h"
 
@@ -24,8 +24,8 @@ unsigned long long __muldi3(unsigned long long a, unsigned long long b);
 
 /* ---------------------------------------------------------------------------------------------- products ---- */
 
-/* Two bits of the smaller factor in each turn, the lowest first. The compiler's functions for double call this as one
-   that changes no registers but a0 to a3; so it is written in assembly. */
+/* Takes two bits of the smaller factor in each iteration, the lowest first. It is written in assembly, because the
+   compiler's functions for double rely on it to change no registers but a0 to a3. */
 __asm__(".section .text.__mulsi3,\"ax\",@progbits\n"
         ".globl __mulsi3\n"
         ".type __mulsi3, @function\n"
@@ -48,9 +48,9 @@ __asm__(".section .text.__mulsi3,\"ax\",@progbits\n"
         "ret\n\t"
         ".size __mulsi3, .-__mulsi3\n");
 
-/* All 64 bits of a product: two bits of the smaller factor (a2) in each turn, the highest first. The larger one is in
-   a3, twice of it in a4 and a5, three times of it in a6 and a7. In C it would take some half as much again, and this is
-   most of what it takes to print a double. */
+/* All 64 bits of a product: takes two bits of the smaller factor (a2) in each iteration, the highest first. The larger
+   one is in a3, two times it in a4 and a5, three times it in a6 and a7. C would take about half as much again, and most
+   of the time to print a double is spent here. */
 unsigned long long it_wide_product(unsigned a, unsigned b);
 __asm__(".section .text.it_wide_product,\"ax\",@progbits\n"
         ".globl it_wide_product\n"
@@ -70,7 +70,7 @@ __asm__(".section .text.it_wide_product,\"ax\",@progbits\n"
         "sltu a7, a6, a3\n\t"
         "add a7, a7, a5\n\t"
         "li t0, 16\n\t"
-        "srli t1, a2, 16\n\t" /* the zeros in front */
+        "srli t1, a2, 16\n\t" /* skips leading zeros */
         "bnez t1, 7f\n\t"
         "slli a2, a2, 16\n\t"
         "addi t0, t0, -8\n"
@@ -186,7 +186,7 @@ int __modsi3(int number, int by)
 
 /* ---------------------------------------------------------------------------------------- quotients of 64 bits ---- */
 
-/* A tenth, by 16 bits of the number at a time. */
+/* A tenth, from 16 bits of the number at a time. */
 static unsigned long long tenth_long(unsigned long long number, unsigned *remainder)
 {
     unsigned high = (unsigned)(number >> 32), low = (unsigned)number, parts[4], left = 0;
@@ -199,8 +199,8 @@ static unsigned long long tenth_long(unsigned long long number, unsigned *remain
 
 #ifdef __riscv_mul
 
-/* What isn't short, and isn't a tenth, is left to the compiler's function: the linker brings all other calls of it to
-   __wrap___udivdi3. */
+/* Quotients of 32 bits, by 0 and by 10 are computed here, and all others by the compiler's function: the linker
+   redirects other calls of it to __wrap___udivdi3. */
 unsigned long long __real___udivdi3(unsigned long long number, unsigned long long by);
 unsigned long long __wrap___udivdi3(unsigned long long number, unsigned long long by);
 #define __udivdi3 __wrap___udivdi3

@@ -1,11 +1,11 @@
-/* Attributes of threads, mutexes, conditions and barriers. They change nothing but a mutex's type and whether a thread
-   is detached; what would change something else is refused. */
+/* Attributes of threads, mutexes, conditions and barriers. Only a mutex's type and a thread's detached state have an
+   effect; a value that would have another effect is refused. */
 #include "attributes.h"
 #include "library.h"
 
 enum { LOWEST = 1, HIGHEST = 99 }; /* priorities */
 
-/* What is asked for where there is one value to have, and another that POSIX knows. */
+/* The result for an attribute of which one value is supported, and another is known to POSIX. */
 static int one_of_two(int asked, int taken, int refused)
 {
     if (asked == taken)

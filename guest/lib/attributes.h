@@ -1,17 +1,17 @@
-/* What the functions of attributes share. */
+/* Shared by the files with functions of attributes. */
 #ifndef IT_ATTRIBUTES_H
 #define IT_ATTRIBUTES_H
 
 #include <errno.h>
 #include <pthread.h>
 
-/* There is one process, so that what is shared between processes is as what isn't. */
+/* There is one process, so sharing an object between processes changes nothing. */
 static inline int it_process(int asked)
 {
     return asked == PTHREAD_PROCESS_PRIVATE || asked == PTHREAD_PROCESS_SHARED ? 0 : EINVAL;
 }
 
-/* A function that gives what an attribute was set to; IT_REPLACEABLE or nothing stands before it. */
+/* A function that gets an attribute; `replaceable` is IT_REPLACEABLE or empty. */
 #define IT_ATTRIBUTE(replaceable, function, attributes_type, type, field)                                              \
     replaceable int function(const attributes_type *restrict attributes, type *restrict value)                         \
     {                                                                                                                  \
@@ -19,8 +19,8 @@ static inline int it_process(int asked)
         return 0;                                                                                                      \
     }
 
-/* What the attributes of conditions, barriers and reader-writer locks have, beside their init: whether processes share
-   an object. */
+/* The functions, except the init, for the attributes of conditions, barriers and reader-writer locks: whether processes
+   share an object. */
 #define IT_ATTRIBUTES_OF(replaceable, kind)                                                                            \
     replaceable int pthread_##kind##_destroy(pthread_##kind##_t *attributes)                                           \
     {                                                                                                                  \

@@ -1,7 +1,7 @@
-/* A number digit by digit, for doubles.c and more/long_double.c. Before they include this they have AFTER_WORDS, what is
-   done where so many words of `parts` were gone through, and a `struct parts` of their size: the digits before the
-   point, of which those from `at` to `end` aren't used yet; and `part`, what is behind the point, in binary, `words`
-   words with the highest first. */
+/* A number digit by digit, for doubles.c and more/long_double.c. Each defines, before it includes this, AFTER_WORDS,
+   which is executed after a pass over that many words of `parts`, and a `struct parts` of its own size: `digits`, the
+   digits before the point, of which those from `at` to `end` aren't used yet; and `part`, what is after the point, in
+   binary, `words` words with the highest first. */
 #ifndef IT_DIGITS_H
 #define IT_DIGITS_H
 
@@ -10,8 +10,8 @@
 
 enum { MOST = 256 };
 
-/* A step may take only so many instructions: therefore a call of the library's own ends the step after MOST numbers were
-   turned into text or from it. The share is how many this one counts for. */
+/* A step may execute only so many instructions: therefore a call of the library's own ends the step when numbers have
+   been turned into text or back whose shares add up to MOST. The share is that of one number. */
 static void count_numbers(unsigned share)
 {
     it_self.doubles += share;
@@ -22,7 +22,7 @@ static void count_numbers(unsigned share)
     it_call(IT_CALL_YIELD, 0, 0);
 }
 
-/* The decimal digits before the point; `whole` has them in words, the highest first, and ends as 0. */
+/* The decimal digits before the point, of a number in the words `whole`, the highest first. `whole` is 0 afterwards. */
 static void whole_digits(struct parts *parts, unsigned *whole, unsigned words)
 {
     unsigned first = 0;
@@ -42,7 +42,7 @@ static void whole_digits(struct parts *parts, unsigned *whole, unsigned words)
     }
 }
 
-/* The next digit. Ten times what is behind the point has it before the point. */
+/* The next digit. After the point it is what comes before the point in ten times the rest. */
 static unsigned next_digit(struct parts *parts)
 {
     unsigned carry = 0;
@@ -59,7 +59,7 @@ static unsigned next_digit(struct parts *parts)
     return carry;
 }
 
-/* Whether only zeros are left. */
+/* Whether the remaining digits are all zero. */
 static bool is_zero(const struct parts *parts)
 {
     for (unsigned k = parts->at; k < parts->end; k++)

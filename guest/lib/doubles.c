@@ -1,8 +1,8 @@
-/* Turning doubles into text, in place of the C library's: digits as they are, rounded once, to the even digit where two
-   are as near. And turning text into doubles, which is the C library's.
+/* Turns doubles into text, in place of the C library: all digits are exact, and rounded once, in a tie to the even
+   digit. And counts the texts that the C library turns into doubles.
 
-   A step may take only so many instructions: therefore a call of the library's own ends the step after some of either.
-   The count of them is back at 0 when a call of the program's begins, so that a step doesn't differ by what was done
+   A step may execute only so many instructions: therefore a call of the library's own ends the step after some of
+   either. Their count is 0 again when a call of the program begins, so that a step doesn't depend on what was done
    before. */
 #include <stdint.h>
 
@@ -19,7 +19,7 @@ struct parts {
 
 typedef unsigned word;
 
-/* The linker brings the C library's calls here; what they pass are words. */
+/* The linker redirects the C library's calls here; the arguments are passed on as words. */
 unsigned long long __real___atod_engine(word a, word b, word c, word d, word e, word f, word g, word h);
 unsigned long long __wrap___atod_engine(word a, word b, word c, word d, word e, word f, word g, word h)
 {
@@ -29,7 +29,7 @@ unsigned long long __wrap___atod_engine(word a, word b, word c, word d, word e, 
 
 /* ------------------------------------------------------------------------------------------- a double in parts ---- */
 
-/* Puts a number of 64 bits into words, so many bits above the end of the last. */
+/* Stores a number of 64 bits into words, shifted left by `shift` bits from the end of the last. */
 static void lay(word *words, unsigned count, unsigned long long number, unsigned shift)
 {
     for (unsigned k = 0; k < count; k++)
@@ -59,8 +59,8 @@ static void split(struct parts *parts, unsigned long long mantissa, int exponent
     whole_digits(parts, whole, words);
 }
 
-/* Whether what is left, and the digit before it, is more than half of the unit of the digit before that; or half of it,
-   where that is odd. */
+/* Whether to round up the digit before `digit`: if `digit` and what follows are more than half of its unit, or half of
+   it and it is odd. */
 static bool rounds_up(const struct parts *parts, unsigned digit, bool odd)
 {
     return digit > 5 || (digit == 5 && (odd || !is_zero(parts)));
@@ -70,14 +70,14 @@ static bool rounds_up(const struct parts *parts, unsigned digit, bool odd)
 
 enum { MINUS = 1, ZERO = 2, INFINITE = 4, NOT_A_NUMBER = 8 };
 
-/* What vfprintf of picolibc wants of a double: the first digit's power of ten, and the digits. */
+/* The form in which vfprintf of picolibc expects a double: the power of ten of the first digit, and the digits. */
 struct dtoa {
     int32_t exp;
     uint8_t flags;
     char digits[];
 };
 
-/* One more in the last of some digits. Gives 1 where they are all nines: then there is a 1 and zeros. */
+/* Adds 1 to the last of some digits. Returns 1 if they were all nines: then they become a 1 and zeros. */
 static int add_one(char *digits, int count)
 {
     while (count-- > 0) {
@@ -89,7 +89,7 @@ static int add_one(char *digits, int count)
     return 1;
 }
 
-/* Writes the digits, at most so many, and with fixed_point only up to so many behind the point. Gives how many. */
+/* Writes the digits, at most `most`, with fixed_point only up to `decimals` after the point. Returns their number. */
 static int round_digits(struct dtoa *to, struct parts *parts, int most, bool fixed_point, int decimals)
 {
     int exponent = (int)(parts->end - parts->at) - 1, count = 0;
@@ -97,7 +97,7 @@ static int round_digits(struct dtoa *to, struct parts *parts, int most, bool fix
     for (; !first; exponent--)
         first = next_digit(parts);
     int wanted = fixed_point && exponent + 1 + decimals < most ? exponent + 1 + decimals : most;
-    if (wanted <= 0) { /* all is behind the last place, which gets a 1 where it is more than half of one */
+    if (wanted <= 0) { /* all digits are below the last place, which becomes 1 if they are over half of it */
         to->exp = -decimals;
         to->digits[0] = wanted == 0 && rounds_up(parts, first, false) ? '1' : '0';
         return 1;
@@ -114,7 +114,7 @@ static int round_digits(struct dtoa *to, struct parts *parts, int most, bool fix
     return count;
 }
 
-/* Between 1e-22 and 1e20 all count the same: else a number that an edit makes longer would move the ends of steps. */
+/* All between 1e-22 and 1e20 have the same share: else an edit that makes a number longer would shift steps. */
 static unsigned share_of(const struct parts *parts)
 {
     unsigned digits = parts->end - parts->at;

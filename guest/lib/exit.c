@@ -1,15 +1,15 @@
-/* How a guest ends: exit with its handlers, _exit, abort, assert, and the end of a thread. */
+/* The ends of a guest: exit with its handlers, _exit, abort, assert, and the end of a thread. */
 #include <stdio.h>
 #include <stdlib.h>
 #include <string.h>
 #include <unistd.h>
 #include "library.h"
 
-/* What a program that was ended by SIGABRT gives to a shell: 128 + 6. */
+/* The code that a shell reports for a program ended by SIGABRT: 128 + 6. */
 enum { ABORTED = 134, HANDLERS = 64 };
 
-/* What exit is to call. A program that has no atexit doesn't have this either: its size tells the linker's script
-   whether there are handlers. */
+/* The handlers that exit calls. A program without atexit doesn't have this section either: the linker's script sees
+   from its size whether there are handlers. */
 static __attribute__((section(".bss.it_handlers"))) struct IT_PAGE_ALIGNED {
     unsigned count;
     void (*function[HANDLERS])(void);
@@ -95,9 +95,9 @@ void __assert_func(const char *file, int line, const char *function, const char 
     _exit(ABORTED);
 }
 
-/* The last thread that ends calls exit(0), as POSIX has it. Only a guest that has handlers must know which one it is.
-   The count of the others that go on is a semaphore's value: a call that takes from it or finds it empty needs no
-   memory that threads would share. */
+/* The last thread that ends calls exit(0), as POSIX requires. Only in a guest with handlers it must be known which
+   thread that is. The number of other threads that still run is a semaphore's value: a call that subtracts from it, or
+   finds it 0, needs no memory that threads share. */
 void it_end_thread(void *value)
 {
     if (it_self.leave_keys)

@@ -1,12 +1,12 @@
 /* stdin: the run's input, which is in memory.
 
-   At the end of each page of the input a call ends the step, so that what is read from one page is a step of its own;
-   and the input's length is asked for in a small step, so that the steps that read don't depend on it. Reading
-   therefore costs two calls for each page.
+   At the end of each page of the input a call ends the step, so that reading one page is a step of its own; and the
+   input's length is read in a short step, so that the steps that read bytes don't depend on it. Reading therefore costs
+   two calls a page.
 
-   Once there are threads, a thread takes a mutex before it reads, and gives it up before its next call of pthread.h,
-   semaphore.h or sched.h. So each byte is read once, whoever reads, and a loop over getchar costs no more than two
-   calls. */
+   Once there are threads, a thread locks a mutex before it reads, and unlocks it before its next call of pthread.h,
+   semaphore.h or sched.h. So each byte is read once, by whichever thread, and a loop of getchar costs only two calls
+   more. */
 #include <errno.h>
 #include <stdio.h>
 #include <stdlib.h>
@@ -29,8 +29,8 @@ static int no_buffer(FILE *stream, char *buffer, int mode, size_t size)
     return 0;
 }
 
-/* The stream, the place of the next byte, and up to where bytes may be taken without asking. Those who read it see it
-   change, so that it has a page. */
+/* The stream, the place of the next byte, and the end of the bytes that may be taken without a call. They change for
+   all threads that read them, so they have a page. */
 static struct IT_PAGE_ALIGNED {
     struct __file_ext stream;
     unsigned at, end;
@@ -74,7 +74,7 @@ static int get_byte(FILE *stream)
 
 /* ---------------------------------------------------------------------------------------------- bytes ---- */
 
-/* `unget` has the byte that was given back and a bit above it. */
+/* `unget` has the byte of ungetc, with a bit set above it. */
 enum { GIVEN_BACK = 0x100 };
 
 static IT_NOINLINE int get_slowly(FILE *stream)
@@ -95,7 +95,7 @@ static IT_NOINLINE int get_slowly(FILE *stream)
     return EOF;
 }
 
-/* The first case is that of nearly all bytes: one of stdin is there, none was given back, and the thread may read. */
+/* The first case is by far the most frequent: stdin has a byte ready, none from ungetc, and the thread may read. */
 int fgetc(FILE *stream)
 {
     if (stream == stdin && input.at < input.end && !stream->unget && it_shared.threads_made == it_self.holds_stdin)
@@ -124,8 +124,8 @@ int ungetc(int byte, FILE *stream)
     return (unsigned char)byte;
 }
 
-/* Takes up to `most` bytes of stdin that are there without asking, up to and with the stop, where there is one (else
-   the stop is EOF). Gives how many; *bytes is where they are. */
+/* Takes at most `most` bytes of stdin that are ready without a call, up to and including the byte `stop`, unless that
+   is EOF. Returns how many; *bytes is where they are. */
 static size_t take(size_t most, int stop, const unsigned char **bytes)
 {
     size_t there = input.end - input.at, count = there < most ? there : most;
@@ -139,7 +139,7 @@ static size_t take(size_t most, int stop, const unsigned char **bytes)
     return count;
 }
 
-/* Reads up to `most` bytes, up to and with the stop. Gives how many. */
+/* Reads at most `most` bytes, up to and including the byte `stop`. Returns how many. */
 static size_t read_some(FILE *stream, unsigned char *to, size_t most, int stop)
 {
     size_t done = 0;
@@ -180,7 +180,7 @@ char *fgets(char *restrict to, int size, FILE *restrict stream)
     return to;
 }
 
-/* POSIX.1-2017 getdelim: what is read so far has `done` bytes and a zero behind them; the line grows by doubling. */
+/* POSIX.1-2017 getdelim: `done` bytes have been read, and a zero follows them; the line grows by doubling. */
 IT_REPLACEABLE ssize_t getdelim(char **restrict line, size_t *restrict size, int stop, FILE *restrict stream)
 {
     size_t done = 0;
@@ -231,7 +231,7 @@ static __off_t seek(FILE *stream, __off_t offset, int whence)
     return place;
 }
 
-/* The input's descriptor is 0, and shares its place with stdin. */
+/* The input's descriptor is 0, and has the same position as stdin. */
 IT_REPLACEABLE ssize_t read(int descriptor, void *bytes, size_t count)
 {
     if (descriptor != STDIN_FILENO) {

@@ -1,43 +1,43 @@
-/* What the files of the library share: what each thread has for itself, the library's own objects, and calls as it
-   makes them. */
+/* Shared by the files of the library: each thread's own data, the library's own objects, and the calls that it
+   makes. */
 #ifndef IT_LIBRARY_H
 #define IT_LIBRARY_H
 
 #include "ithreads.h"
 
-enum { IT_PROCESS = 1, IT_PROCESSORS = 4 }; /* what getpid and sysconf give */
+enum { IT_PROCESS = 1, IT_PROCESSORS = 4 }; /* what getpid and sysconf return */
 
-/* The last of each kind is the library's: its mutex, a condition that nobody signals, and the count of the threads that
-   go on. */
+/* The last object of each kind is the library's: its mutex, a condition that is never signalled, and the number of
+   other threads that still run. */
 enum { IT_OWN_MUTEX = 63, IT_NEVER = 63, IT_OTHERS = 63, IT_FOR_PROGRAMS = 63 };
 
-/* What a thread has for itself, in its block of thread-local data. At the start of each step `settle` is 0, unless the
-   call before it was made for the library's own sake: before a call of the program all that was written is put out, and
-   stdin is given up. */
+/* A thread's own data, in its block of thread-local data. At the start of each step `settle` is 0, unless the call
+   before was the library's own: before a call of the program the library outputs all that was written, and releases
+   stdin. */
 struct it_self {
     unsigned number;               /* of the thread */
-    unsigned settle;               /* there are bytes to put out, or stdin is held */
-    unsigned char *page, *at;      /* the page that is filled, and where the next byte goes */
-    unsigned char *call;           /* where the bytes of the stdio call begin that is under way, or null */
+    unsigned settle;               /* nonzero if there are bytes to output, or stdin is held */
+    unsigned char *page, *at;      /* the page being filled, and where the next byte goes */
+    unsigned char *call;           /* where the bytes of the current stdio call begin, or null */
     int holds_stdin;
-    unsigned doubles;              /* that were turned into text or from it since the last call */
-    void (*leave_heap)(void);      /* what is to be done at the thread's end, or null */
+    unsigned doubles;              /* shares of numbers turned into text or back since the last call */
+    void (*leave_heap)(void);      /* called at the thread's end, or null */
     void (*leave_keys)(void);
 };
 extern _Thread_local struct it_self it_self;
 
-/* What all threads look at, on a page of its own: it hardly changes. */
+/* Read by all threads, on a page of its own: it hardly changes. */
 struct IT_PAGE_ALIGNED it_shared {
-    /* Somebody has created a thread. Who runs beside others sees it: it is stored before the first of them is there. */
+    /* Whether a thread has been created. It is stored before the first one exists, so all other threads see it. */
     int threads_made;
     void (*run_handlers)(void); /* those of atexit, or null */
 };
 extern struct it_shared it_shared;
 
-/* Puts out what is to be put out, and gives up stdin. */
+/* Outputs what is buffered, and releases stdin. */
 void it_settle(void);
 
-/* A call of the program's: what it did before is done for all who see the call. */
+/* A call of the program: what the thread did before is complete for all threads that see the call. */
 static inline int it_ordered_call(enum it_call number, unsigned first, unsigned second)
 {
     if (it_self.settle)
@@ -45,7 +45,7 @@ static inline int it_ordered_call(enum it_call number, unsigned first, unsigned 
     return it_call(number, first, second);
 }
 
-/* The library's own mutex. While there is one thread there is nothing to lock. */
+/* The library's own mutex. While there is one thread, nothing is locked. */
 static inline void it_lock_library(void)
 {
     if (it_shared.threads_made)
@@ -58,10 +58,10 @@ static inline void it_unlock_library(void)
         it_call(IT_CALL_UNLOCK, IT_OWN_MUTEX, 0);
 }
 
-/* A function that isn't of ISO C: a program may have one of its own by that name. */
+/* A function that isn't of ISO C: a program may define its own of that name. */
 #define IT_REPLACEABLE __attribute__((weak))
 
-/* One that only gives a value. */
+/* Such a function that only returns a value. */
 #define IT_GIVES(type, function, parameters, value)                                                                    \
     IT_REPLACEABLE type function parameters                                                                            \
     {                                                                                                                  \
@@ -71,24 +71,24 @@ static inline void it_unlock_library(void)
 /* The kinds of numbered objects. */
 enum it_kind { IT_MUTEX, IT_SEMAPHORE, IT_BARRIER, IT_CONDITION };
 
-/* The number of an object: an object of its kind that isn't known gets one. -1 where all are given out. */
+/* Returns the number of an object, and gives it one if it has none; -1 if all are in use. */
 int it_number(enum it_kind kind, const void *object);
 
-/* The same for an object that must have one: where all are given out the guest ends, with a message. */
+/* The same, but if all are in use the guest ends, with a message. */
 unsigned it_number_or_end(enum it_kind kind, const void *object);
 
-/* Takes an object's number back. */
+/* Makes an object's number free. */
 void it_forget(enum it_kind kind, const void *object);
 
-/* Ends the guest as abort does, after a message on stderr. */
+/* Ends the guest as abort does, with a message on stderr. */
 void it_end_by(const char *message) __attribute__((noreturn));
 
-/* Calls what pthread_cleanup_push was told and no pop was reached for, the last first. guest/build sets IT_CLEANUP where
-   a program has such. */
+/* Calls the functions of pthread_cleanup_push that haven't been popped, the last one first. guest/build sets IT_CLEANUP
+   if a program has such. */
 void it_run_cleanups(void);
 
-/* What a new thread calls: stands on its creator's stack, and the new thread sees it as it was at the create. guest/build
-   sets IT_SCHEDULED where a program asks for a thread's policy. */
+/* What a new thread calls. It is on its creator's stack, and the new thread sees it as it was at the create.
+   guest/build sets IT_SCHEDULED if a program reads a thread's policy. */
 struct it_beginning {
     void *(*function)(void *);
     void *argument;
@@ -100,16 +100,16 @@ struct it_beginning {
 #endif
 };
 
-/* Policy and priority for a thread with the attributes, or null; and keeps them for a thread. */
+/* The policy and priority for a thread with the attributes, which may be null; and the call that stores them. */
 unsigned it_scheduling_for(const void *attributes);
 void it_keep_scheduling(unsigned thread, unsigned scheduling);
 
-/* Whether a thread is detached; where guest/build sets IT_DETACHED. */
+/* Whether a thread is detached; only if guest/build sets IT_DETACHED. */
 int it_is_detached(unsigned thread);
 
-/* Takes the signals that wait for the thread, and answers whether a handler was called; the signals that the thread
-   blocks; and SIGABRT for a program that catches it. guest/build sets IT_SIGNALS where a program handles or blocks
-   signals. */
+/* Takes the pending signals of the thread, and returns whether a handler was called; gets and sets the signals that the
+   thread blocks; and raises SIGABRT if the program catches it. guest/build sets IT_SIGNALS if a program handles or
+   blocks signals. */
 #ifdef IT_SIGNALS
 int it_take_signals(void);
 #else
@@ -119,8 +119,8 @@ unsigned long long it_blocked_signals(void);
 void it_block_signals(unsigned long long set);
 void it_raise_abort(void);
 
-/* Whether somebody has cancelled the thread, and it may be cancelled; what ends it then, or if it may be at any time; and
-   what threads tell each other of their begin and end. guest/build sets IT_CANCEL where a program cancels threads. */
+/* Whether the thread has been cancelled and allows that; what ends it then, or only with the asynchronous type; and how
+   threads record their begin and end. guest/build sets IT_CANCEL if a program cancels threads. */
 #ifdef IT_CANCEL
 int it_is_cancelled(void);
 void it_end_if_cancelled(void);
@@ -137,17 +137,17 @@ static inline void it_tell_end(void) { }
 static inline void it_wait_for_end(unsigned thread) { (void)thread; }
 #endif
 
-/* The code of exit, for the handlers of on_exit; where guest/build sets IT_ON_EXIT. */
+/* The code of exit, for the handlers of on_exit; only if guest/build sets IT_ON_EXIT. */
 extern int it_exit_code;
 
 /* Ends the calling thread. */
 void it_end_thread(void *value) __attribute__((noreturn));
 
-/* Gives up stdin, where the thread holds it. */
+/* Releases stdin, if the thread holds it. */
 void it_give_up_stdin(void);
 
-/* A tenth. Without a product it is found by adding up 1/2 + 1/4, times 1 + 1/16, and so on, which is 8/10 but for a
-   little: so it is right or one too few. */
+/* A tenth. Without a multiplication it is an eighth of 1/2 + 1/4, times 1 + 1/16, and so on, which is slightly less
+   than 8/10: so it is right or 1 too small, and the remainder shows which. */
 static inline unsigned it_tenth(unsigned number, unsigned *remainder)
 {
 #ifdef __riscv_mul

@@ -1,12 +1,12 @@
-/* malloc and its like.
+/* malloc and the functions related to it.
 
-   The heap is a run of pages. A block of at most 2,032 bytes is on a page with others of its size, and of one thread: a
-   thread takes some pages at a time, and makes its blocks there. So what one thread allocates is on no page that
-   another allocates from, and each thread has its pages at places of its own, whatever others take. A larger block, or
-   one that must lie at more than 16 bytes, has pages of its own. The map of pages is changed under the library's mutex;
-   a block that a thread takes or frees on a page of its own needs no call. Blocks of other threads' pages are
-   collected, and handed over when there are enough, to be taken by whoever needs such blocks. What a thread leaves when
-   it ends goes the same way. */
+   The heap is a run of pages. A block of at most 2,032 bytes shares its page only with blocks of its size and of one
+   thread: a thread takes some pages at a time, and makes its blocks there. So no two threads allocate from the same
+   page, and each thread has its pages at places of its own, whatever others take. A larger block, or one that must be
+   aligned to more than 16 bytes, has pages of its own. The map of pages is changed under the library's mutex; no call
+   is needed to take or free a block on a thread's own page. Blocks that a thread frees on other threads' pages are
+   collected, and handed over once there are enough, for any thread that needs such blocks. When a thread ends, its free
+   blocks are handed over too. */
 #include <errno.h>
 #include <malloc.h>
 #include <stdint.h>
@@ -17,38 +17,38 @@
 enum {
     MOST_PAGES = 1024,
     STEP = 16,              /* blocks begin and end at multiples of it */
-    MOST_SMALL = 2032,      /* bytes of a block that has others beside it */
+    MOST_SMALL = 2032,      /* bytes of a block that shares its page */
     SIZES = 15,
     PAGES_AT_ONCE = 8,      /* that a thread takes for its small blocks */
     HANDED_AT_ONCE = 8192,  /* bytes of blocks of one size that go from thread to thread */
-    BREATH = 16384,         /* blocks that are gone through in one step */
+    BREATH = 16384,         /* blocks that are visited in one step */
     COPIED_AT_ONCE = 65536  /* bytes that are copied or cleared in one step */
 };
 static const unsigned short size_of[SIZES] = {
     16, 32, 48, 64, 96, 128, 192, 256, 384, 512, 672, 816, 1008, 1360, 2032
 };
 
-/* A block that is free. */
+/* A free block. */
 struct block { struct block *next; };
 
-/* How a page of small blocks begins. */
+/* The start of a page of small blocks. */
 struct head {
     unsigned short size, thread; /* which of size_of, and whose it is */
     unsigned spare[3];           /* so that blocks begin at a multiple of STEP */
 };
 
-/* What a thread has, on a page of its own. */
+/* The data of a thread, on a page of its own. */
 static struct IT_PAGE_ALIGNED arena {
-    struct block *free[SIZES];       /* on pages of its own */
-    struct block *collected[SIZES];  /* on those of others */
+    struct block *free[SIZES];       /* on its own pages */
+    struct block *collected[SIZES];  /* on other threads' pages */
     unsigned collected_bytes[SIZES];
-    char *next[SIZES], *end[SIZES];  /* what of a page was never given out */
+    char *next[SIZES], *end[SIZES];  /* the part of a page that was never allocated */
     char *pages, *pages_end;         /* pages that have no size yet */
 } arenas[IT_THREADS];
 
-/* What is under the library's mutex: for each page of the heap what it is, and the blocks that were handed over. Its
-   section is there only in a program that takes memory: so the linker's script knows whether to give it a heap. */
-enum { CLEAN, USED_BEFORE, FIRST_OF_SMALL, MORE_OF_LARGE, FIRST_OF_LARGE /* and above: with how many more */ };
+/* Data under the library's mutex: the state of each page of the heap, and handed-over blocks. Only a program that
+   allocates memory has this section, so that the linker's script knows whether to make a heap. */
+enum { CLEAN, USED_BEFORE, FIRST_OF_SMALL, MORE_OF_LARGE, FIRST_OF_LARGE /* and above: plus further pages */ };
 static __attribute__((section(".bss.it_takes_memory"))) struct IT_PAGE_ALIGNED common {
     unsigned short page[MOST_PAGES];
     struct block *free[SIZES];
@@ -69,8 +69,8 @@ static unsigned page_of(const void *block)
 
 /* ---------------------------------------------------------------------------------------------- pages ---- */
 
-/* Where a thread looks first: main's at the beginning; others in the second half, where the first few are far from each
-   other, by their number's bits in reverse. */
+/* Where a thread looks first: main's at the start; others in the second half, at places in the order of their number's
+   bits reversed, so that the first few are far apart. */
 static unsigned preferred(unsigned thread)
 {
     unsigned pages = heap_pages(), place = 0, bits = thread - 1;
@@ -81,7 +81,7 @@ static unsigned preferred(unsigned thread)
     return pages / 2 + pages / (2 * IT_THREADS) * place;
 }
 
-/* How many of the pages from one on are free, up to as many; *dirty says whether one of them was used before. */
+/* The number of free pages from `from` on, at most `most`; *dirty is nonzero if one of them was used before. */
 static unsigned free_run(unsigned from, unsigned most, int *dirty)
 {
     unsigned count = 0;
@@ -91,8 +91,8 @@ static unsigned free_run(unsigned from, unsigned most, int *dirty)
     return count;
 }
 
-/* Takes so many pages one behind the other, at or behind `from` and before `to`, the first at a multiple of `align`
-   pages in memory. -1: there are none. */
+/* Finds `count` free pages in a row, at or after `from` and before `to`, the first at a multiple of `align` pages in
+   memory. Returns -1 if there are none. */
 static int search(unsigned from, unsigned to, unsigned count, unsigned align, int *dirty)
 {
     unsigned base = (unsigned)it_heap / IT_PAGE, at = ((base + from + align - 1) & ~(align - 1)) - base;
@@ -127,7 +127,7 @@ static int find_pages(unsigned count, unsigned align, int *dirty)
 
 /* ------------------------------------------------------------------------------------------ when all is in use ---- */
 
-/* The most blocks that a page of a size has. */
+/* The number of blocks on a full page of a size. */
 static unsigned blocks_of(unsigned size)
 {
     unsigned count = 0;
@@ -136,22 +136,22 @@ static unsigned blocks_of(unsigned size)
     return count;
 }
 
-/* A list may have so many blocks that to go through it takes more than a step may: then a call now and then ends the
-   step. */
+/* A list may have so many blocks that one step may not visit them all: so a call ends the step after each BREATH
+   blocks. */
 static void breathe(unsigned done)
 {
     if (done % BREATH == 0)
         it_call(IT_CALL_YIELD, 0, 0);
 }
 
-/* Counts the free blocks of each page. A page of which some were never given out has too few. */
+/* Counts the free blocks of each page. A page with blocks that were never allocated counts too few. */
 static void count_free(const struct block *block)
 {
     for (unsigned done = 1; block; block = block->next, breathe(done++))
         common.count[page_of(block)]++;
 }
 
-/* Takes the blocks of wholly free pages from a list. */
+/* Removes the blocks of wholly free pages from a list. */
 static void drop_whole(struct block **list, unsigned whole)
 {
     for (unsigned done = 1; *list; breathe(done++))
@@ -161,7 +161,7 @@ static void drop_whole(struct block **list, unsigned whole)
             list = &(*list)->next;
 }
 
-/* Pages all of whose blocks are free, as far as the caller knows, are free pages again. Under the library's mutex. */
+/* Frees the pages whose blocks are all free, as far as the caller knows. Under the library's mutex. */
 static void give_pages_back(struct arena *arena)
 {
     mark_free(page_of(arena->pages), (unsigned)(arena->pages_end - arena->pages) / IT_PAGE);
@@ -189,7 +189,7 @@ static struct arena *own_arena(void)
     return &arenas[it_self.number];
 }
 
-/* Puts one list before another. */
+/* Moves one list to the front of another. */
 static void splice(struct block **to, struct block **from)
 {
     struct block **end = from;
@@ -200,7 +200,7 @@ static void splice(struct block **to, struct block **from)
     *from = NULL;
 }
 
-/* At a thread's end: hands over all that it has free. */
+/* At a thread's end: hands over all its free blocks. */
 static void leave_heap(void)
 {
     struct arena *arena = own_arena();
@@ -218,7 +218,7 @@ static void leave_heap(void)
     it_unlock_library();
 }
 
-/* Takes pages for small blocks; fewer where there aren't as many in one place. 0: there is none. */
+/* Takes pages for small blocks; fewer if there aren't as many in a row. Returns 0 if there are none. */
 static int take_pages(struct arena *arena)
 {
     int dirty, at = -1;
@@ -238,7 +238,7 @@ static int take_pages(struct arena *arena)
     return 1;
 }
 
-/* Takes some of the blocks of a size that were handed over. */
+/* Takes some handed-over blocks of a size. */
 static void take_handed(struct arena *arena, unsigned size)
 {
     struct block **end = &common.free[size];
@@ -251,7 +251,7 @@ static void take_handed(struct arena *arena, unsigned size)
         it_self.leave_heap = leave_heap;
 }
 
-/* Gets blocks of a size that were handed over, or pages. 0: there are none. */
+/* Takes handed-over blocks of a size, or pages. Returns 0 if there are none. */
 static int get_more(struct arena *arena, unsigned size)
 {
     it_lock_library();
@@ -265,7 +265,7 @@ static int get_more(struct arena *arena, unsigned size)
     return some;
 }
 
-/* Begins a page of a size. */
+/* Makes the next page one of blocks of a size. */
 static void begin_page(struct arena *arena, unsigned size)
 {
     struct head *head = (struct head *)arena->pages;
@@ -308,7 +308,7 @@ static void *take_small(size_t bytes)
     return block;
 }
 
-/* A block on another thread's page. */
+/* Collects a block that is on another thread's page. */
 static void collect(struct arena *arena, struct block *block, unsigned size)
 {
     block->next = arena->collected[size];
@@ -365,7 +365,7 @@ static void *take_large(size_t bytes, size_t align, int *dirty)
     return it_heap + (unsigned)at * IT_PAGE;
 }
 
-/* How many pages a large block has. */
+/* The number of pages of a large block. */
 static unsigned pages_of(const void *block)
 {
     return common.page[page_of(block)] - (unsigned)FIRST_OF_LARGE + 1;
@@ -383,7 +383,7 @@ static void free_large(void *block)
     it_unlock_library();
 }
 
-/* Makes a large block larger or smaller where it is. 0: that can't be. */
+/* Resizes a large block in place. Returns 0 if that isn't possible. */
 static int resize_large(void *block, size_t bytes)
 {
     unsigned at = page_of(block), old = pages_of(block), count = (unsigned)((bytes + IT_PAGE - 1) / IT_PAGE);
@@ -408,7 +408,7 @@ static size_t part_of(size_t left)
     return left < COPIED_AT_ONCE ? left : COPIED_AT_ONCE;
 }
 
-/* To copy or clear the first part of a block takes no call of its own. */
+/* Ends the step after each part of a block that is copied or cleared, except the first. */
 static void breathe_after(size_t done)
 {
     if (done)
@@ -431,7 +431,7 @@ void free(void *block)
         free_small(block);
 }
 
-/* Pages that nobody had are zero. */
+/* Pages that were never used are zero. */
 void *calloc(size_t count, size_t bytes)
 {
     size_t all;
@@ -448,7 +448,7 @@ void *calloc(size_t count, size_t bytes)
     return block;
 }
 
-/* With 0 bytes it frees the block and gives null, as Linux' C library does. */
+/* With 0 bytes it frees the block and returns null, as glibc does. */
 void *realloc(void *block, size_t bytes)
 {
     if (!block)
@@ -519,7 +519,7 @@ IT_REPLACEABLE void cfree(void *block)
     free(block);
 }
 
-/* Counts pages: one with small blocks is in use whole. */
+/* Counts pages: a page of small blocks counts as fully in use. */
 IT_REPLACEABLE struct mallinfo mallinfo(void)
 {
     struct mallinfo info = { 0 };
@@ -538,14 +538,14 @@ IT_REPLACEABLE struct mallinfo mallinfo(void)
     return info;
 }
 
-/* Nothing can be set. */
+/* There is nothing to set. */
 IT_REPLACEABLE int mallopt(int what, int value)
 {
     (void)what, (void)value;
     return 1;
 }
 
-/* Nothing is given back to the system. */
+/* No memory is returned to the system. */
 IT_REPLACEABLE int malloc_trim(size_t bytes)
 {
     (void)bytes;

@@ -1,10 +1,10 @@
-/* Which number of the machine a mutex, semaphore, barrier or condition has.
+/* The machine's numbers for mutexes, semaphores, barriers and conditions.
 
-   A table of each kind, on a page of its own, has the object's address at its number. A call looks an object up there
-   and doesn't load from the object: what stands beside a mutex is what it guards, and a step that ends by the lock
-   would have read that. The place where the search begins comes from the address, so that the numbers hardly depend on
-   who comes first. Entries are made and taken away under the library's mutex; one that is found without it is right,
-   since nobody changes it while the object is in use. */
+   For each kind, a table on a page of its own has each object's address at its number. A call looks the object up there
+   and doesn't load from the object: next to a mutex is the data that it guards, and the step that ends with the lock
+   would have read that. The search begins at a place computed from the address, so that the numbers hardly depend on
+   which object comes first. Entries are added and removed under the library's mutex; an entry that is found without it
+   is right, since it doesn't change while the object is in use. */
 #include <stdio.h>
 #include "library.h"
 #include "table.h"
@@ -23,7 +23,7 @@ int it_number(enum it_kind kind, const void *object)
     if (number < 0 && place < IT_FOR_PROGRAMS) {
         number = (int)place;
         table->object[place] = (unsigned)object;
-        if (kind == IT_SEMAPHORE) /* whoever had the number may have left a value */
+        if (kind == IT_SEMAPHORE) /* an earlier semaphore with this number may have had a value */
             it_call(IT_CALL_SEM_INIT, place, 0);
     }
     it_unlock_library();

@@ -9,7 +9,7 @@ static void unlock(void *number)
     it_call(IT_CALL_UNLOCK, (unsigned)number, 0);
 }
 
-/* A function that is cancelled is called by the next. */
+/* If the thread is cancelled in the function, the next caller calls it again. */
 static void call_once(void (*function)(void), unsigned mutex)
 {
     pthread_cleanup_push(unlock, (void *)mutex);
@@ -37,8 +37,8 @@ int pthread_once(pthread_once_t *once, void (*function)(void))
     return it_ordered_call(IT_CALL_UNLOCK, number, 0);
 }
 
-/* Keys that were made, on a page of their own. A key that was deleted has its number still, so that no thread has an
-   old value of a new key. */
+/* The keys that were created, on a page of their own. A deleted key's number isn't used again, so that no thread has an
+   old value for a new key. */
 static struct IT_PAGE_ALIGNED {
     unsigned made;
     char deleted[PTHREAD_KEYS_MAX];
@@ -77,7 +77,7 @@ int pthread_key_delete(pthread_key_t key)
     return answer;
 }
 
-/* A destructor may set values again: so they are gone through as often as POSIX wants it at least. */
+/* A destructor may set values again, so this makes as many passes as POSIX requires at least. */
 static void leave_keys(void)
 {
     int some = 1;

@@ -1,16 +1,16 @@
-/* stdout and stderr: both go into the one output of the run.
+/* stdout and stderr: both go into the run's one output.
 
-   Each thread has two pages of its own that it fills in turn. A full page is put out; what there is less than that is
-   put out before the thread's next call of pthread.h, semaphore.h or sched.h, at fflush, and at exit. So no lock is
-   needed and no print costs a call, and yet prints come in each order that the program makes by its calls: what was
-   printed before a call is in the output before anybody sees the call.
+   Each thread has two pages of its own that it fills in turn. A full page is output; a part of one is output before the
+   thread's next call of pthread.h, semaphore.h or sched.h, at fflush, and at exit. So no lock is needed and no print
+   costs a call; yet the prints are in any order that the program imposes by its calls: what was printed before a call
+   is in the output before another thread sees the call.
 
    A put reads the page of its bytes, and what a read page held when the step began counts for the reuse of the step.
-   Therefore there are two pages: while the one is filled the other is cleared, so that the step that fills a page found
-   it empty, and doesn't depend on what was printed before.
+   Therefore there are two pages: one is cleared while the other is filled, so that the step that fills a page found it
+   empty, and doesn't depend on what was printed before.
 
-   Each call of stdio with at most 4,096 bytes is in one put, once there are threads: so nobody's bytes come between. Of
-   a longer call those of others may, if nothing orders them. */
+   Once there are threads, each call of stdio with at most 4,096 bytes is one put, so no other thread's bytes come
+   between. In a longer call they may, if nothing orders them. */
 #include <stdio.h>
 #include <string.h>
 #include <unistd.h>
@@ -19,14 +19,14 @@
 
 static struct IT_PAGE_ALIGNED { unsigned char bytes[2][IT_PAGE]; } pages[IT_THREADS];
 
-/* guest/build --unbuffered: what a call of stdio leaves is put out if there is a newline in it. */
+/* guest/build --unbuffered: after a call of stdio the page is output if there is a newline in it. */
 #ifdef IT_UNBUFFERED
 enum { AT_NEWLINES = 1 };
 #else
 enum { AT_NEWLINES = 0 };
 #endif
 
-/* Clears the first bytes of a page, and up to 31 more. */
+/* Clears the first bytes of a page, and at most 31 more. */
 static void clear(unsigned char *page, unsigned count)
 {
     for (unsigned *word = (unsigned *)page, *end = (unsigned *)(page + count); word < end; word += 8)
@@ -38,7 +38,7 @@ static void begin_page(unsigned char *page)
     it_self.page = it_self.at = page;
 }
 
-/* Puts out the first bytes of the page, goes on with the other page, and brings there what is behind them. */
+/* Outputs the first bytes of the page, and continues on the other page, to which it moves the rest. */
 static void put_out(unsigned count)
 {
     unsigned char *page = it_self.page, *other = pages[it_self.number].bytes[page == pages[it_self.number].bytes[0]];
@@ -79,7 +79,7 @@ void it_settle(void)
     it_self.settle = it_self.doubles = 0;
 }
 
-/* Whole pages are put out from where they are, if nothing is to come before. What can't be read traps when it is
+/* Outputs whole pages directly from where they are, if nothing is buffered. Bytes that can't be read trap when they are
    copied. */
 static void add(const unsigned char *bytes, size_t count)
 {
@@ -111,7 +111,7 @@ static int put_byte(char byte, FILE *stream)
     return (unsigned char)byte;
 }
 
-/* Outside of a longer call a byte for stderr goes out at once. */
+/* Outside of a longer call, a byte for stderr is output at once. */
 static int put_error(char byte, FILE *stream)
 {
     int answer = put_byte(byte, stream);
@@ -145,7 +145,7 @@ static __off_t no_seek(FILE *stream, __off_t offset, int whence)
     return -1;
 }
 
-/* Nothing in them changes but an error's mark, so they needn't be on pages of their own. */
+/* Only the error flag in them changes, so they need no pages of their own. */
 static struct __file_ext output = FDEV_SETUP_EXT(put_byte, NULL, flush_stream, stay_open, no_seek, no_buffer, __SWR);
 static struct __file_ext errors = FDEV_SETUP_EXT(put_error, NULL, flush_stream, stay_open, no_seek, no_buffer, __SWR);
 FILE *const stdout = &output.cfile.file;
@@ -156,7 +156,7 @@ static int is_ours(const FILE *stream)
     return stream == stdout || stream == stderr;
 }
 
-/* A call of stdio begins and ends. Calls may stand in one another, as where a printf calls a print. */
+/* The begin and end of a call of stdio. Calls may be nested, as when a printf calls a print. */
 static unsigned char *begin_call(void)
 {
     unsigned char *outer = it_self.call;
@@ -179,7 +179,7 @@ static void end_call(const FILE *stream, const unsigned char *outer)
 #define __real_vfprintf it_vfprintf /* in long_double.c */
 #endif
 
-/* The linker brings each vfprintf here, also those of printf and its like. */
+/* The linker redirects each vfprintf here, including those of printf and its variants. */
 int __real_vfprintf(FILE *stream, const char *format, va_list arguments);
 int __wrap_vfprintf(FILE *stream, const char *format, va_list arguments)
 {
@@ -239,7 +239,7 @@ int fflush(FILE *stream)
     return 0;
 }
 
-/* The output's descriptors are 1 and 2. What stdio holds comes before; the bytes are put out from where they are. */
+/* The output's descriptors are 1 and 2. What stdio has buffered is output first; the bytes are output in place. */
 IT_REPLACEABLE ssize_t write(int descriptor, const void *bytes, size_t count)
 {
     if (descriptor != STDOUT_FILENO && descriptor != STDERR_FILENO) {

@@ -1,4 +1,4 @@
-/* Where a guest with a C library starts, and where each of its threads does: gp, tp, and the block of thread-local
+/* The start of a guest with a C library, and of each of its threads: sets gp, tp, and the block of thread-local
    data. */
 #include <stdlib.h>
 #include <string.h>
@@ -11,16 +11,16 @@ struct it_shared it_shared;
 extern const char it_own_image[], it_own_image_size[];
 extern void (*const it_constructors[])(void), (*const it_constructors_end[])(void);
 
-/* from guest/build: the environment, which is an empty list; then the program's name and the words of --args, and how
-   many they are */
+/* from guest/build: the environment, which is an empty list; then the program's name and the words of --args; and the
+   number of these words */
 extern char *it_words[];
 extern const char it_word_count[];
 
 int main(int count, char **words, char **environment);
 
-/* The machine gives each thread its number in tp. Number n has the block at it_own + n * it_own_size. A number isn't
-   used again, so that a block is zero when its thread starts. Both entries come to the same place; main's thread has
-   nothing in a0 that is wanted. */
+/* The machine sets tp to the thread's number. Thread n's block is at it_own + n * it_own_size. A number isn't used
+   again, so a block is zero when its thread starts. Both entries lead to the same place; for main's thread a0 has no
+   meaning. */
 __asm__(".section .text.startup,\"ax\",@progbits\n"
         ".globl _start\n"
         ".globl it_thread_entry\n"
@@ -49,12 +49,12 @@ static __attribute__((noreturn)) void start_main(void)
     for (void (*const *each)(void) = it_constructors; each != it_constructors_end; each++)
         (*each)();
     char **words = it_words;
-    __asm__("" : "+r"(words)); /* so that its address is made once */
+    __asm__("" : "+r"(words)); /* so that its address is computed once */
     exit(main((int)it_word_count, words + 1, words));
 }
 
-/* The first step of a thread ends here, with a call: so the creator's page, on which the beginning stands, isn't read
-   by the step that works. */
+/* The first step of a thread ends here, with a call: so the step that does the work doesn't read the page of the
+   creator's stack that has the beginning. */
 static __attribute__((noreturn)) void start_thread(const struct it_beginning *beginning)
 {
     void *(*function)(void *) = beginning->function;

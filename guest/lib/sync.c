@@ -1,11 +1,11 @@
-/* Mutexes, conditions, barriers and semaphores: each call is the machine's of the same name, with the object's
-   number. */
+/* Mutexes, conditions, barriers and semaphores: unless noted, each call is the machine's of the same name, with the
+   object's number. */
 #include <errno.h>
 #include <pthread.h>
 #include <semaphore.h>
 #include "library.h"
 
-/* The machine's negated errors as errno.h has them. */
+/* The number in errno.h for a negated error of the machine. */
 static int answered(int answer)
 {
     switch (answer) {
@@ -48,7 +48,7 @@ int pthread_mutex_destroy(pthread_mutex_t *mutex)
     return 0;
 }
 
-/* Nobody signals the condition, so this doesn't return. */
+/* The condition is never signalled, so this doesn't return. */
 static void wait_for_ever(void)
 {
     it_call(IT_CALL_LOCK, IT_OWN_MUTEX, 0);
@@ -57,8 +57,8 @@ static void wait_for_ever(void)
 
 #ifdef IT_MUTEX_TYPES
 
-/* How often the thread has locked each mutex that it has. guest/build compiles this where a program names a type of
-   mutex: then a lock that isn't the first needs no call, and nothing is loaded from a mutex that isn't the thread's. */
+/* How often the thread has locked each mutex that it holds. guest/build compiles this if a program names a type of
+   mutex: then a repeated lock needs no call, and nothing is loaded from a mutex that another thread holds. */
 static _Thread_local unsigned locked[IT_OBJECTS];
 
 static int lock_by(enum it_call call, pthread_mutex_t *mutex)
@@ -133,7 +133,7 @@ int pthread_cond_destroy(pthread_cond_t *condition)
     return 0;
 }
 
-#ifndef IT_CANCEL /* else these are of guest/lib/more/cancel.c */
+#ifndef IT_CANCEL /* else guest/lib/more/cancel.c has these */
 
 int pthread_cond_wait(pthread_cond_t *restrict condition, pthread_mutex_t *restrict mutex)
 {
@@ -167,7 +167,7 @@ int pthread_barrier_init(pthread_barrier_t *restrict barrier, const pthread_barr
     return number < 0 ? EAGAIN : answered(it_ordered_call(IT_CALL_BARRIER_INIT, (unsigned)number, count));
 }
 
-/* To set a count is refused while somebody waits, so it tells whether somebody does. */
+/* The machine refuses to set a count while a thread waits, so this shows whether one does. */
 int pthread_barrier_destroy(pthread_barrier_t *barrier)
 {
     unsigned number = it_number_or_end(IT_BARRIER, barrier);
@@ -187,7 +187,7 @@ int pthread_barrier_wait(pthread_barrier_t *barrier)
 
 #ifndef IT_CANCEL
 
-/* An answer as semaphore.h has it. */
+/* The result as semaphore.h defines it. */
 static int told(int error)
 {
     if (error == 0)
@@ -198,8 +198,8 @@ static int told(int error)
 
 #ifdef IT_SEM_VALUES
 
-/* guest/build compiles this where a program calls sem_getvalue. The value is in the object, under a mutex of its own;
-   below 0 it is how many threads wait, for a condition of its own. */
+/* guest/build compiles this if a program calls sem_getvalue. The value is in the object, under a mutex of its own;
+   below 0 it is the negated number of threads that wait, for a condition of its own. */
 static unsigned begin(sem_t *semaphore)
 {
     unsigned mutex = it_number_or_end(IT_MUTEX, semaphore);

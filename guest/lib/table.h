@@ -1,4 +1,4 @@
-/* A table of numbered objects: it has the object's address at its number. */
+/* A table of numbered objects: each object's address is at its number. */
 #ifndef IT_TABLE_H
 #define IT_TABLE_H
 
@@ -14,7 +14,7 @@ static unsigned first_place(unsigned object)
     return place == IT_FOR_PROGRAMS ? 0 : place;
 }
 
-/* The number of an object; -1: it has none. Where one could go is in *place, IT_FOR_PROGRAMS if nowhere. */
+/* Returns the number of an object, or -1 if it has none. *place is where it could go, IT_FOR_PROGRAMS if nowhere. */
 static int find(const struct table *table, unsigned object, unsigned *place)
 {
     unsigned at = first_place(object);

@@ -8,8 +8,8 @@ extern __attribute__((weak)) const char it_has_handlers[]; /* weak, since it may
 void it_thread_entry(void);
 
 #ifdef IT_DETACHED
-/* guest/build compiles this where a program detaches threads. A thread's state is stored by who detaches it and by who
-   has joined it. */
+/* guest/build compiles this if a program detaches threads. A thread's state is stored by the thread that detaches it,
+   creates it detached or has joined it. */
 enum { DETACHED = 1, JOINED = 2 };
 static struct IT_PAGE_ALIGNED { unsigned char of[IT_THREADS]; } states;
 
@@ -61,7 +61,7 @@ int pthread_create(pthread_t *restrict thread, const pthread_attr_t *restrict at
     return 0;
 }
 
-/* The value comes in a register. */
+/* The machine returns the value in a register. */
 int pthread_join(pthread_t thread, void **value)
 {
     unsigned left;
@@ -106,7 +106,7 @@ int pthread_equal(pthread_t one, pthread_t other)
     return one == other;
 }
 
-/* POSIX.1-2017 sched_yield: ends a step, and the thread sees what others stored. Answers 0. */
+/* POSIX.1-2017 sched_yield: ends the step, and the thread sees what others stored. Returns 0. */
 int sched_yield(void)
 {
     int answer = it_ordered_call(IT_CALL_YIELD, 0, 0);

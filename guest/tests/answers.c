@@ -1,4 +1,4 @@
-/* Each answer of pthread.h and semaphore.h that POSIX defines and Linux gives too, by its name. */
+/* Each result of pthread.h and semaphore.h that POSIX defines and Linux gives too, printed by its name. */
 #include <errno.h>
 #include <limits.h>
 #include <pthread.h>
@@ -28,7 +28,7 @@ static void tell(const char *what, int answer)
     printf("%s: %s\n", what, name(answer));
 }
 
-/* of semaphore.h */
+/* for semaphore.h */
 static void tell_errno(const char *what, int answer)
 {
     tell(what, answer == 0 ? 0 : errno);

@@ -1,4 +1,4 @@
-/* Products, quotients and remainders of integers of 32 and 64 bits, and doubles, of drawn numbers of all sizes. */
+/* Products, quotients and remainders of integers of 32 and 64 bits, and doubles, of random numbers of all sizes. */
 #include <inttypes.h>
 #include <sched.h>
 #include <stdint.h>

@@ -1,4 +1,4 @@
-/* An assertion that doesn't hold. */
+/* An assertion that fails. */
 #include <assert.h>
 #include <stdio.h>
 

@@ -1,4 +1,4 @@
-/* Threads of C11. */
+/* C11 threads. */
 #include <stdio.h>
 #include <threads.h>
 

@@ -1,4 +1,4 @@
-/* Contexts: a generator, words for a function, what goes on after one, and a context that is set again. */
+/* Contexts: a generator, words for a function, what is resumed after one, and a context that is set again. */
 #include <stdio.h>
 #include <stdlib.h>
 #include <ucontext.h>

@@ -1,4 +1,4 @@
-/* Threads that nobody joins: made so, made so by another, and by themselves. The last one to end ends the run. */
+/* Threads that are never joined: created detached, or detached by a thread. The last thread's end ends the run. */
 #include <errno.h>
 #include <pthread.h>
 #include <semaphore.h>

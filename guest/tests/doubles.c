@@ -1,4 +1,4 @@
-/* Doubles of all sizes as text, in many formats: with up to 17 digits each is as it is on Linux. And text as
+/* Doubles of all sizes as text, in many formats: up to 17 digits are the same as on Linux. And text as
    doubles. */
 #include <math.h>
 #include <sched.h>

@@ -1,4 +1,4 @@
-/* A thread calls exit while another waits and main joins: handlers run, what was printed comes, and the code is that of
+/* A thread calls exit while another waits and main joins: handlers run, the prints are output, and the code is that of
    exit. */
 #include <pthread.h>
 #include <sched.h>

@@ -1,4 +1,4 @@
-/* Files, where there are none but a directory that nobody can write to. */
+/* Files, on a system with only a directory that can't be written to. */
 #include <errno.h>
 #include <fcntl.h>
 #include <stdio.h>

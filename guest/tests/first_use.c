@@ -1,4 +1,4 @@
-/* Static mutexes and a once that several threads use for the first time at once. */
+/* Static mutexes and a once that several threads use for the first time at the same time. */
 #include <pthread.h>
 #include <stdio.h>
 

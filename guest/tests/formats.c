@@ -1,4 +1,4 @@
-/* Text: printf and scanf of many kinds, sorting, and arithmetic that the machine has no instructions for. */
+/* Text: printf and scanf of many kinds, sorting, and arithmetic for which the machine has no instructions. */
 #include <errno.h>
 #include <inttypes.h>
 #include <math.h>

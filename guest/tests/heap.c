@@ -1,4 +1,4 @@
-/* Threads take, hand on and give back memory: what is in a block stays, and more is taken in all than there is at
+/* Threads allocate, pass on and free memory: a block keeps its content, and they allocate more in all than there is at
    once. */
 #include <pthread.h>
 #include <semaphore.h>

@@ -1,5 +1,5 @@
-/* Reads its input by getchar, by fread, by fgets and by getline, and from a place in the middle: each time all of it,
-   byte for byte. */
+/* Reads its input by getchar, by fread, by fgets and by getline, and from a position in the middle: each time all of
+   it, byte for byte. */
 #include <stdio.h>
 #include <stdlib.h>
 #include <string.h>

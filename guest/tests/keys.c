@@ -1,4 +1,4 @@
-/* Keys: a value for each thread, and destructors at its end, again where one sets a value. */
+/* Keys: a value for each thread, and destructors at its end, called again if one sets a value. */
 #include <pthread.h>
 #include <stdint.h>
 #include <stdio.h>

@@ -1,4 +1,4 @@
-/* Main's thread ends first, and another joins it; the last thread's end is as exit(0): handlers run. */
+/* Main's thread ends first, and another joins it; the last thread's end acts as exit(0): handlers run. */
 #include <pthread.h>
 #include <stdio.h>
 #include <stdlib.h>

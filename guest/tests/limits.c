@@ -1,4 +1,4 @@
-/* What this machine answers where POSIX leaves it open, or where Linux has no such limit. Each line is by pthread.h. */
+/* Results that POSIX leaves open, and limits that Linux doesn't have: each line is as pthread.h specifies. */
 #include <errno.h>
 #include <pthread.h>
 #include <sched.h>
@@ -64,7 +64,7 @@ static void *waits(void *unused)
     return unused;
 }
 
-/* until each of the others waits for something */
+/* until each of the others waits */
 static void let_wait(void)
 {
     for (int k = 0; k < 10; k++)

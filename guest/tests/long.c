@@ -1,4 +1,4 @@
-/* A computation with no call for a long time: in loops, in recursion, and in jumps to where a table says. */
+/* A computation without a call for a long time: in loops, in recursion, and in jumps through a table. */
 #include <stdio.h>
 #include <stdlib.h>
 #include <string.h>

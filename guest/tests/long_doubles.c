@@ -1,5 +1,5 @@
-/* long double printed and read, with no more digits than Linux' long double has; and with all of them where the number
-   has few. */
+/* long double printed and read, with no more digits than Linux' long double has, or with all digits of numbers that
+   have few. */
 #include <float.h>
 #include <math.h>
 #include <stdarg.h>

@@ -1,4 +1,4 @@
-/* Memory: more than there is gives NULL, and what was given back is there again. Each line says `yes`. */
+/* Memory: allocating more than there is gives NULL, and freed memory can be allocated again. Each line is `yes`. */
 #include <errno.h>
 #include <sched.h>
 #include <stdint.h>
@@ -11,14 +11,14 @@ static void tell(const char *what, int right)
     printf("%s: %s\n", what, right ? "yes" : "no");
 }
 
-/* A step may take only so many instructions. */
+/* A step may execute only so many instructions. */
 static void now_and_then(unsigned count)
 {
     if (count % 1024 == 0)
         sched_yield();
 }
 
-/* As many blocks as there are, each with the address of the one before. */
+/* Allocates as many blocks as there are, each with the address of the one before. */
 static void **fill(size_t bytes)
 {
     void **last = NULL, **block;

@@ -1,4 +1,4 @@
-/* As many mutexes, conditions, semaphores and barriers as there are; then one more of each; and again when one was
+/* As many mutexes, conditions, semaphores and barriers as there can be; then one more of each; and again after one was
    destroyed. */
 #include <errno.h>
 #include <pthread.h>

@@ -1,4 +1,4 @@
-/* Semaphores that have names, and the values of semaphores. */
+/* Named semaphores, and the values of semaphores. */
 #include <errno.h>
 #include <fcntl.h>
 #include <limits.h>

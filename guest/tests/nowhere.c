@@ -1,4 +1,4 @@
-/* Files that aren't there: the same natively. */
+/* Files that don't exist: the same natively. */
 #include <errno.h>
 #include <fcntl.h>
 #include <stdio.h>

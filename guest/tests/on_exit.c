@@ -1,4 +1,4 @@
-/* Handlers of on_exit get the code and an argument, and are called in their order among those of atexit. */
+/* Handlers of on_exit get the code and an argument, and are called in order with those of atexit. */
 #define _GNU_SOURCE
 #include <stdio.h>
 #include <stdlib.h>

@@ -1,4 +1,4 @@
-/* Puts out 200 MB, a million lines of 200 bytes. */
+/* Outputs 200 MB, a million lines of 200 bytes. */
 #include <stdio.h>
 #include <string.h>
 

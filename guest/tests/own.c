@@ -1,4 +1,4 @@
-/* Thread-local data: with values to begin with, aligned to pages and less, and of more than a page; each thread has its
+/* Thread-local data: with initial values, aligned to pages and less, and of more than a page; each thread has its
    own. */
 #include <pthread.h>
 #include <stdint.h>

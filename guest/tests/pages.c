@@ -1,5 +1,5 @@
-/* Threads that add up pages of the input, one each time, and count under a recursive mutex and a spin lock: after an edit
-   of a byte the steps of its page are executed, and few others. */
+/* Threads that add up pages of the input, one at a time, and count under a recursive mutex and a spin lock: after an
+   edit of a byte the steps of its page are executed, and few others. */
 #define _GNU_SOURCE
 #include <pthread.h>
 #include <stdalign.h>

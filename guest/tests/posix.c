@@ -1,4 +1,4 @@
-/* Functions of POSIX, C and BSD that the C library leaves out. Its input has numbers. */
+/* Functions of POSIX, C and BSD that the C library omits. The input has numbers. */
 #define _GNU_SOURCE
 #include <errno.h>
 #include <fcntl.h>

@@ -1,5 +1,5 @@
-/* Four threads print at once, lines of all lengths: no line is torn, none is lost, none comes twice. Their order is
-   nobody's. */
+/* Four threads print at once, lines of all lengths: no line is torn, lost or printed twice. Their order isn't
+   specified. */
 #include <pthread.h>
 #include <stdint.h>
 #include <stdio.h>

@@ -1,5 +1,5 @@
-/* Recursive, error-checking and normal mutexes: who may lock and unlock them again, and a condition with one that was
-   locked once. */
+/* Recursive, error-checking and normal mutexes: which thread may lock and unlock them again, and a condition with one
+   that was locked once. */
 #define _GNU_SOURCE
 #include <errno.h>
 #include <pthread.h>

@@ -1,4 +1,4 @@
-/* The owner of a normal mutex locks it again, and waits for ever; another thread goes on. */
+/* The owner of a normal mutex locks it again, and waits for ever; another thread continues. */
 #include <pthread.h>
 #include <stdio.h>
 

@@ -1,4 +1,4 @@
-/* Reader-writer locks: readers who hold one at once, writers who add under one, and what each call answers. */
+/* Reader-writer locks: readers that hold one together, writers that add under one, and the result of each call. */
 #include <errno.h>
 #include <pthread.h>
 #include <stdio.h>
@@ -14,7 +14,7 @@ static void tell(const char *what, int answer)
     printf("%s: %s\n", what, answer == 0 ? "0" : answer == EBUSY ? "EBUSY" : answer == EDEADLK ? "EDEADLK" : "another");
 }
 
-/* Comes to the barrier with the lock held to read: no reader may wait for another. Nobody wants to write yet. */
+/* Reaches the barrier with the lock held to read: no reader may wait for another. No thread wants to write yet. */
 static void *reads_beside_others(void *unused)
 {
     pthread_rwlock_rdlock(&lock);

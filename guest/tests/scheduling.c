@@ -1,4 +1,4 @@
-/* Attributes and calls that change nothing here, and are kept for who asks; names of threads, pthread_atfork. */
+/* Attributes and calls that have no effect here, but are kept and can be read; names of threads, pthread_atfork. */
 #define _GNU_SOURCE
 #include <errno.h>
 #include <pthread.h>
@@ -112,7 +112,7 @@ int main(void)
     tell("processors", pthread_getaffinity_np(pthread_self(), sizeof all, &all));
     printf("some: %d\n", CPU_COUNT(&all) > 0);
     printf("none: %d\n", sched_setaffinity(0, sizeof one, &one));
-    int first = 0; /* that the program may run on: natively that needn't be processor 0 */
+    int first = 0; /* of those that the program may run on; natively that may not be processor 0 */
     while (!CPU_ISSET(first, &all))
         first++;
     CPU_SET(first, &one);

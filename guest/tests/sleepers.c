@@ -1,4 +1,4 @@
-/* A sleep that a signal's handler ends, and one that it doesn't. */
+/* A sleep that a signal handler ends, and one that it doesn't. */
 #define _GNU_SOURCE
 #include <errno.h>
 #include <pthread.h>

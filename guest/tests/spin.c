@@ -1,4 +1,4 @@
-/* Spin locks: threads that add under one, and what each call answers. */
+/* Spin locks: threads that add under one, and the result of each call. */
 #include <errno.h>
 #include <pthread.h>
 #include <stdio.h>

@@ -1,4 +1,4 @@
-/* Locks 65 static mutexes: past the last the guest ends, with a message. */
+/* Locks 65 static mutexes: the first one too many ends the guest, with a message. */
 #include <pthread.h>
 #include <stdio.h>
 

@@ -1,4 +1,4 @@
-/* Descriptors of streams, what malloc says of its blocks, and what the system says of itself. */
+/* Descriptors of streams, sizes of malloc's blocks, and queries to the system. */
 #include <ctype.h>
 #include <errno.h>
 #include <malloc.h>
@@ -25,7 +25,7 @@ static void blocks(void)
     printf("option: %d\n", mallopt(M_MMAP_THRESHOLD, 1 << 20));
 }
 
-/* of all bytes, and of all values of a char that is signed */
+/* for all bytes, and for all values of a signed char */
 static void classes(void)
 {
     unsigned sums[13] = { 0 };

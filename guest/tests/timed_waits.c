@@ -1,5 +1,5 @@
-/* Waits with a time, each with an answer that doesn't depend on which thread runs first: nobody comes, somebody came
-   before, or the wait begins again until somebody comes. */
+/* Waits with a time, each with a result that doesn't depend on which thread runs first: no thread comes, one came
+   before, or the wait is repeated until one comes. */
 #include <errno.h>
 #include <pthread.h>
 #include <semaphore.h>
@@ -8,7 +8,7 @@
 
 enum { THREADS = 4, ITEMS = 20, SHORT = 30 /* milliseconds */ };
 
-/* What a thread has for itself; each answer is 1 where it is as it should be. */
+/* A thread's own data; each result is 1 if it is right. */
 static struct own {
     pthread_mutex_t mutex;
     pthread_cond_t condition;
@@ -108,7 +108,7 @@ static void each_for_itself(void)
 
 /* ---------------------------------------------------------------------------------------------- until it comes ---- */
 
-/* Half of them make items, and half take as many. */
+/* Half of them produce items, and half consume as many. */
 static void *hands_on(void *argument)
 {
     struct timespec end;

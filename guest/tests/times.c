@@ -1,4 +1,4 @@
-/* The time, sleeps and waits with a time. What is printed is so natively, too. */
+/* The time, sleeps and waits with a time. The output is the same natively. */
 #include <errno.h>
 #include <pthread.h>
 #include <semaphore.h>

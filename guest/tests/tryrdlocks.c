@@ -1,4 +1,4 @@
-/* Read locks that are tried, and that are waited for up to a time. */
+/* Read locks that are tried, or waited for with a time. */
 #define _GNU_SOURCE
 #include <errno.h>
 #include <pthread.h>

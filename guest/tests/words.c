@@ -1,4 +1,4 @@
-/* What main gets, and a char of a program, which is signed. */
+/* The arguments of main, and a program's char, which is signed. */
 #include <limits.h>
 #include <stdio.h>
 #include <string.h>

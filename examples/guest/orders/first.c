@@ -1,20 +1,20 @@
-/* What orders come to, in each region: a line `REGION ORDERS TOTAL LARGEST` for each of the four, and one with how many
-   orders were taken and how many lines were refused. docs/GUESTS.md tells how `ithreads why` finds what is wrong with
-   this version, which executes too much after an edit, and mended.c is what came of that.
+/* Adds up orders by region: a line `REGION ORDERS TOTAL LARGEST` for each of the four, and one with how many orders
+   were taken and how many lines were refused. docs/GUESTS.md shows how `ithreads why` finds what is wrong with this
+   version, which executes too much after an edit; mended.c is the result.
 
    The input is lines of 16 bytes. The first 256 are the price list, `NNN PPPPP` and spaces: an item and its price. All
-   others are orders, `NNN xQQ REGION`: an item, how many of it, and north, south, east or west. Who orders many pays
-   less for each.
+   others are orders, `NNN xQQ REGION`: an item, a quantity, and north, south, east or west. For large quantities each
+   one costs less.
 
    A block is one page of orders, or 256. Worker w takes the blocks w, w + 4, .., adds up in an array of its own, and
-   says behind each block how many orders it took and how many lines it refused. At its end it adds what it has to the
-   totals of all.
+   adds after each block how many orders it took and how many lines it refused to common counters. At its end it adds
+   its sums to the totals.
 
    reuse: fewer, since each step asks for the input's length. */
 #include "ithreads.h"
 
 enum { WORKERS = 4, REGIONS = 4, LINE = 16, LINES = IT_PAGE / LINE, ITEMS = LINES, MOST = 100 };
-enum { NONE = 1000000 };     /* more than five digits make */
+enum { NONE = 1000000 };     /* more than five digits can make */
 enum { STATISTICS, TOTALS }; /* mutexes */
 
 struct order {
@@ -27,15 +27,15 @@ struct region {
 
 static const char names[REGIONS][8] = {"north", "south", "east", "west"};
 
-static unsigned prices[ITEMS];  /* 0 where there is no such item */
-static unsigned rates[MOST];    /* how many 64ths of the price are paid, by how many are ordered */
+static unsigned prices[ITEMS];  /* 0 if there is no such item */
+static unsigned rates[MOST];    /* how many 64ths of the price are paid, by quantity */
 static unsigned taken, refused; /* orders and other lines, of all blocks */
 static struct region totals[REGIONS];
 static char text[REGIONS * 48];
 
 /* ---- lines of the input ---- */
 
-/* the number that so many digits make; NONE where one isn't a digit */
+/* the number that `count` digits make; NONE if one isn't a digit */
 static unsigned number(const unsigned char *digits, unsigned count)
 {
     unsigned value = 0;
@@ -48,7 +48,7 @@ static unsigned number(const unsigned char *digits, unsigned count)
     return value;
 }
 
-/* the region of this name, which a space follows; REGIONS where it is none */
+/* the region of this name, which must be followed by a space; REGIONS if there is none */
 static unsigned region_of(const unsigned char *name)
 {
     for (unsigned region = 0; region < REGIONS; region++) {
@@ -61,7 +61,7 @@ static unsigned region_of(const unsigned char *name)
     return REGIONS;
 }
 
-/* whether a line is an order of something that is sold, and which */
+/* whether a line is an order of an item that is sold; stores the order in *order */
 static int is_order(const unsigned char *line, struct order *order)
 {
     order->item = number(line, 3);

@@ -1,13 +1,13 @@
-/* What orders come to, in each region: first.c, after what `ithreads why` said of three edits, as docs/GUESTS.md tells.
-   It puts out the same, of the same input.
+/* Adds up orders by region: first.c, changed after what `ithreads why` reported for three edits, as docs/GUESTS.md
+   shows. Its output is the same for the same input.
 
-   What is found out of a block stands on a page of the block, and the main thread adds it up at the end: so no counter
-   changes beside the tables, and no sum goes from block to block. How many lines a block has stands there too, so that
-   no worker asks for the input's length. */
+   The results of a block are on a page of the block, and the main thread adds them up at the end: so no counter is on a
+   page with the tables, and no sum is carried from block to block. The page also has the block's number of lines, so no
+   worker reads the input's length. */
 #include "ithreads.h"
 
 enum { WORKERS = 4, REGIONS = 4, LINE = 16, LINES = IT_PAGE / LINE, ITEMS = LINES, MOST = 100 };
-enum { NONE = 1000000 }; /* more than five digits make */
+enum { NONE = 1000000 }; /* more than five digits can make */
 enum { BLOCKS = IT_INPUT_MOST / IT_PAGE - 1 };
 
 struct order {
@@ -26,8 +26,8 @@ struct IT_PAGE_ALIGNED block {
 
 static const char names[REGIONS][8] = {"north", "south", "east", "west"};
 
-static unsigned prices[ITEMS];  /* 0 where there is no such item */
-static unsigned rates[MOST];    /* how many 64ths of the price are paid, by how many are ordered */
+static unsigned prices[ITEMS];  /* 0 if there is no such item */
+static unsigned rates[MOST];    /* how many 64ths of the price are paid, by quantity */
 static unsigned taken, refused; /* orders and other lines, of all blocks */
 static struct region totals[REGIONS];
 static struct block blocks[BLOCKS];
@@ -35,7 +35,7 @@ static char text[REGIONS * 48];
 
 /* ---- lines of the input ---- */
 
-/* the number that so many digits make; NONE where one isn't a digit */
+/* the number that `count` digits make; NONE if one isn't a digit */
 static unsigned number(const unsigned char *digits, unsigned count)
 {
     unsigned value = 0;
@@ -48,7 +48,7 @@ static unsigned number(const unsigned char *digits, unsigned count)
     return value;
 }
 
-/* the region of this name, which a space follows; REGIONS where it is none */
+/* the region of this name, which must be followed by a space; REGIONS if there is none */
 static unsigned region_of(const unsigned char *name)
 {
     for (unsigned region = 0; region < REGIONS; region++) {
@@ -61,7 +61,7 @@ static unsigned region_of(const unsigned char *name)
     return REGIONS;
 }
 
-/* whether a line is an order of something that is sold, and which */
+/* whether a line is an order of an item that is sold; stores the order in *order */
 static int is_order(const unsigned char *line, struct order *order)
 {
     order->item = number(line, 3);
@@ -114,7 +114,7 @@ static void add_up(const struct region *sums)
     }
 }
 
-/* tells each block how many lines it has */
+/* stores in each block how many lines it has */
 static IT_NOINLINE void deal(void)
 {
     unsigned length = it_input_length();

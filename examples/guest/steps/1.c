@@ -1,5 +1,5 @@
-/* Counts lines, words and bytes, as wc does. The first version of docs/GUESTS.md, as one would write it: four threads, a quarter of the input
-   each; totals in registers, and then added up under a mutex. */
+/* Counts lines, words and bytes, as wc does. The first version of docs/GUESTS.md, the obvious one: four threads, a
+   quarter of the input each; totals in registers, which are then added up under a mutex. */
 #include "ithreads.h"
 
 enum { WORKERS = 4, TOTALS = 0 };

@@ -1,4 +1,4 @@
-/* Counts lines, words and bytes, as wc does. The second version of docs/GUESTS.md: a block is one page of the input, with a call behind it.
+/* Counts lines, words and bytes, as wc does. The second version of docs/GUESTS.md: a block is one page of the input, followed by a call.
 
    reuse: fewer, since each step depends on the length, and on all that its thread counted before. */
 #include "ithreads.h"

@@ -1,4 +1,4 @@
-/* Counts lines, words and bytes, as wc does. The third version of docs/GUESTS.md: what a block counts is stored, and no register keeps it.
+/* Counts lines, words and bytes, as wc does. The third version of docs/GUESTS.md: a block's counts are stored, and not kept in registers.
 
    reuse: fewer, since each block asks for the input's length. */
 #include "ithreads.h"

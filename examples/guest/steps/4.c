@@ -1,5 +1,5 @@
-/* Counts lines, words and bytes, as wc does. The fourth version of docs/GUESTS.md: main deals the length out. But the blocks' lengths stand on
-   one page, and what is counted stands behind them on the same.
+/* Counts lines, words and bytes, as wc does. The fourth version of docs/GUESTS.md: main stores each block's length. But
+   all lengths are on one page, and the counts follow on the same page.
 
    reuse: fewer, since each block loads a page that nearly every edit changes. */
 #include "ithreads.h"

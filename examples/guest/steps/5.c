@@ -1,4 +1,4 @@
-/* Counts lines, words and bytes, as wc does. The fifth version of docs/GUESTS.md: what main deals out to a block has a page of its own. */
+/* Counts lines, words and bytes, as wc does. The fifth version of docs/GUESTS.md: the length that main stores for a block has its own page. */
 #include "ithreads.h"
 
 enum { WORKERS = 4, BLOCKS = IT_INPUT_MOST / IT_PAGE };

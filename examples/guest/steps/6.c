@@ -1,4 +1,4 @@
-/* Counts lines, words and bytes, as wc does. The sixth version of docs/GUESTS.md: main looks at the byte before each block, too. */
+/* Counts lines, words and bytes, as wc does. The sixth version of docs/GUESTS.md: main also looks at the byte before each block. */
 #include "ithreads.h"
 
 enum { WORKERS = 4, BLOCKS = IT_INPUT_MOST / IT_PAGE };

@@ -1,6 +1,6 @@
-/* Producers and consumers with a bounded buffer, as a textbook has them, without a thought of reuse. The main thread
-   reads lines of text. Producers put them into the buffer, consumers take them out and count letters, digits and words.
-   It makes some twelve calls for each line: more steps than a run may have by default, so it wants --steps 65536.
+/* Producers and consumers with a bounded buffer, as in a textbook, without regard to reuse. The main thread reads lines
+   of text. Producers put them into the buffer; consumers take them out and count letters, digits and words. The program
+   makes some twelve calls for each line: more steps than a run may have by default, so it needs --steps 65536.
 
    cc -pthread -O2 bounded_buffer.c && ./a.out <bounded_buffer.in */
 #include <ctype.h>
@@ -24,7 +24,7 @@ typedef struct {
 typedef struct {
     item_t *items;
     int size;
-    int in, out;           /* where the next item goes, and where it is taken */
+    int in, out;           /* where the next item is put, and where it is taken */
     sem_t mutex;
     sem_t empty;           /* free places */
     sem_t full;            /* items */

@@ -1,5 +1,5 @@
-/* Parallel quicksort, as a textbook has it, without a thought of reuse: reads whole numbers, sorts them with threads
-   down to a certain depth of the recursion, looks whether they are sorted, and prints them.
+/* Parallel quicksort, as in a textbook, without regard to reuse: reads whole numbers, sorts them with threads down to a
+   certain depth of the recursion, checks that they are sorted, and prints them.
 
    cc -pthread -O2 quicksort.c && ./a.out <quicksort.in */
 #include <pthread.h>

@@ -1,4 +1,4 @@
-/* The C library's has 32 signals; here are 64, as on Linux. */
+/* The C library's set has 32 signals; this one has 64, as on Linux. */
 #ifndef _SYS__SIGSET_H_
 #define _SYS__SIGSET_H_
 

@@ -1,2 +1,2 @@
-/* As on Linux. */
+/* As on Linux, the same as signal.h. */
 #include <signal.h>

@@ -1,4 +1,4 @@
-/* The C library's sys/stat.h, and what of POSIX.1-2017 <sys/stat.h> it leaves out. */
+/* The C library's sys/stat.h, and what it omits of POSIX.1-2017 <sys/stat.h>. */
 #include_next <sys/stat.h>
 #ifndef IT_SYS_STAT_H
 #define IT_SYS_STAT_H

@@ -1,4 +1,4 @@
-/* How many calls a thread has made, where `guest/build --time counted` has them counted. */
+/* The number of calls that a thread has made, if `guest/build --time counted` counts them. */
 #include "counted.h"
 
 _Thread_local unsigned it_calls;

@@ -1,14 +1,14 @@
 /* The clock of `guest/build --time counted`, and sleeps.
 
-   Each thread has a time of its own, that begins with the year 2000. A call that asks for the time moves it on by a
-   millisecond. Who waits for a time yields until it is over: 100 times for each second, 1,000 times at most. Yields
-   don't count while another thread waits for an earlier time, so that those who wait go on in the order of their times;
-   nor, for 1,000 yields, while another is known to have made more calls, since the machine lets who has made fewest go
-   first. At the end the thread's time is the one that it waited for.
+   Each thread has a time of its own, which starts with the year 2000. A call that gets the time advances it by a
+   millisecond. A thread that waits for a time yields until it is reached: 100 times a second, at most 1,000 times.
+   Yields don't count while another thread waits for an earlier time, so that waiting threads continue in the order of
+   their times. Nor do up to 1,000 yields count while another thread is known to have made more calls, since the machine
+   runs the thread with the fewest steps first. After the wait, the thread's time is the one that it waited for.
 
-   A page that all see has the time that each thread has come to by its waits, and for which it waits. Who asks for the
-   time has at least the latest that is there: so who was waited for isn't behind, and a step that asks for no time
-   depends on nobody's. */
+   A page that all threads share has, for each thread, the time that it has reached by waiting and the time that it
+   waits for. A thread that gets the time has at least the latest time reached there, so it isn't behind a thread that
+   it waited for; and a step that doesn't get the time depends on no other thread's. */
 #include <errno.h>
 #include <pthread.h>
 #include <stddef.h>
@@ -21,23 +21,23 @@
 
 enum {
     BEGIN = 946684800, /* 2000-01-01, in seconds from 1970 on */
-    ASKED = 1000000,   /* nanoseconds that pass when the time is asked for */
+    ASKED = 1000000,   /* nanoseconds that pass when the time is read */
     YIELD = 10000000,  /* and in a yield */
     TICKS = 100,       /* of `times`, in a second, as sysconf says */
-    MOST = 1000,       /* yields of one wait, but for those that another's earlier time takes */
+    MOST = 1000,       /* yields of one wait, without those that don't count */
     LAST_CLOCK = 7     /* the last number of a clock in the C library's time.h */
 };
 
-/* Times are from BEGIN on. Where `until` is 0 the thread doesn't wait. */
+/* Times count from BEGIN. If `until` is 0, the thread doesn't wait. */
 static struct IT_PAGE_ALIGNED {
     struct {
         struct timespec reached, until;
-        unsigned calls; /* when it began to wait last, or created a thread */
+        unsigned calls; /* made when the thread last began a wait or created a thread */
     } of[IT_THREADS];
 } times_of;
 static _Thread_local struct timespec own;
 
-/* The thread's time, moved on. */
+/* Advances the thread's time and returns it. */
 static struct timespec asked(void)
 {
     for (unsigned thread = 0; thread < IT_THREADS; thread++)
@@ -163,7 +163,7 @@ IT_REPLACEABLE int clock_settime(clockid_t clock, const struct timespec *time)
     return failed(clock == CLOCK_REALTIME && it_is_time(time) ? EPERM : EINVAL);
 }
 
-/* One process, and its clock. */
+/* There is one process, and it has one clock. */
 IT_REPLACEABLE int clock_getcpuclockid(pid_t process, clockid_t *clock)
 {
     (void)process;
@@ -224,7 +224,7 @@ IT_REPLACEABLE int getrusage(int who, struct rusage *usage)
 
 /* ---------------------------------------------------------------------------------------------- sleeps ---- */
 
-/* A sleep is a yield at least. Answers whether a signal's handler has ended it. */
+/* A sleep yields at least once. Returns whether a signal handler ended it. */
 static int sleep_until(struct timespec then)
 {
     struct it_wait wait = it_begin_wait(then);
@@ -237,7 +237,7 @@ static int sleep_until(struct timespec then)
     return ended;
 }
 
-/* The same, and what is left of the time. */
+/* The same for a length of time; stores the rest of it if a handler ended the sleep. */
 static int sleep_for(struct timespec length, struct timespec *rest)
 {
     struct timespec then = it_sum(it_now(), length);
@@ -262,7 +262,7 @@ IT_REPLACEABLE int usleep(useconds_t microseconds)
     return sleep_for(length, &rest) ? failed(EINTR) : 0;
 }
 
-/* POSIX.1-2017 clock_nanosleep: the answer is the error. */
+/* POSIX.1-2017 clock_nanosleep: returns the error. */
 IT_REPLACEABLE int clock_nanosleep(clockid_t clock, int flags, const struct timespec *time, struct timespec *rest)
 {
     struct timespec left;

@@ -1,4 +1,4 @@
-/* The clock of a condition's attributes: it is kept for who asks. */
+/* The clock of a condition's attributes: it is kept, so that it can be read back. */
 #include "../attributes.h"
 #include "counted.h"
 

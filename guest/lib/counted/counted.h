@@ -1,4 +1,4 @@
-/* What the files of the counted clock share. */
+/* Shared by the files of the counted clock. */
 #ifndef IT_COUNTED_H
 #define IT_COUNTED_H
 
@@ -8,11 +8,11 @@
 
 enum { IT_SECOND = 1000000000 };
 
-/* The thread's time, which this call moves on. */
+/* Advances the thread's time and returns it, counted from 1970. */
 struct timespec it_now(void);
 
-/* A wait of the thread's for a time: until then, and how many yields are still to be made, that count, and at most
-   since others have made more calls. */
+/* A wait of the thread for a time: the time; how many yields remain that count; and how many at most may not count
+   because another thread has made more calls. */
 struct it_wait {
     struct timespec until;
     unsigned yields, others;
@@ -20,7 +20,7 @@ struct it_wait {
 
 struct it_wait it_begin_wait(struct timespec then);
 
-/* Yields. Answers 0, and doesn't, where the time is over. */
+/* Yields and returns 1, or returns 0 at once if the time has passed. */
 int it_wait_on(struct it_wait *wait);
 
 void it_end_wait(const struct it_wait *wait, int is_over);
@@ -45,7 +45,7 @@ static inline struct timespec it_sum(struct timespec one, struct timespec other)
     return sum;
 }
 
-/* The later less the earlier. */
+/* The later minus the earlier. */
 static inline struct timespec it_difference(struct timespec later, struct timespec earlier)
 {
     struct timespec rest = { later.tv_sec - earlier.tv_sec, later.tv_nsec - earlier.tv_nsec };
@@ -56,7 +56,7 @@ static inline struct timespec it_difference(struct timespec later, struct timesp
     return rest;
 }
 
-/* A function that tries a lock until it is the caller's, or until the time is over: then it answers ETIMEDOUT. */
+/* A function that tries a lock until the caller has it, or until the time has passed: then it returns ETIMEDOUT. */
 #define IT_TIMED_LOCK(replaceable, function, type, try)                                                                \
     replaceable int function(type *restrict lock, const struct timespec *restrict time)                                \
     {                                                                                                                  \

@@ -1,15 +1,15 @@
-/* Waits with a time, for `guest/build --time counted`: the thread yields until it has what it waits for, or until its
-   time is over.
+/* Waits with a time, for `guest/build --time counted`: the thread yields until it has what it waits for, or until the
+   time has passed.
 
-   The machine's conditions wake only who waits in the machine. So a thread that waits for one with a time stands in a
-   list, and a signal looks there first; guest/build has the linker bring each signal and broadcast here. */
+   The machine's conditions wake only threads that wait in the machine. So a thread that waits for one with a time is in
+   a list, and a signal looks there first; guest/build has the linker redirect each signal and broadcast here. */
 #include <pthread.h>
 #include <semaphore.h>
 #include "counted.h"
 
 static struct IT_PAGE_ALIGNED {
     unsigned count;
-    struct waiter { pthread_cond_t *condition; int *woken; } waiter[IT_THREADS]; /* who came first is first */
+    struct waiter { pthread_cond_t *condition; int *woken; } waiter[IT_THREADS]; /* in order of arrival */
 } waiting;
 static _Thread_local int woken;
 
@@ -19,7 +19,7 @@ static void leave(unsigned place)
         waiting.waiter[place] = waiting.waiter[place + 1];
 }
 
-/* Wakes up to so many. Answers whether there were any. */
+/* Wakes at most this many threads of the list. Returns whether it woke any. */
 static int wake(const pthread_cond_t *condition, unsigned most)
 {
     unsigned found = 0;
@@ -61,7 +61,7 @@ static void enter(pthread_cond_t *condition)
     it_unlock_library();
 }
 
-/* Answers 0 where somebody has woken the thread, and else ETIMEDOUT; it stands in the list no more. */
+/* Takes the thread off the list. Returns 0 if another thread has woken it, else ETIMEDOUT. */
 static int came_out(void)
 {
     int answer = 0;

@@ -1,15 +1,15 @@
-/* Threads of C11, by those of POSIX. */
+/* C11 threads, based on those of POSIX. */
 #include <errno.h>
 #include <threads.h>
 #include "../library.h"
 
-/* An answer of pthread.h as threads.h has it. */
+/* A result of pthread.h as threads.h defines it. */
 static int answered(int answer)
 {
     return answer == 0 ? thrd_success : answer == EBUSY ? thrd_busy : thrd_error;
 }
 
-/* What a thread gives comes in a register, be it an int or a pointer. */
+/* A thread's value is in a register, whether it is an int or a pointer. */
 IT_REPLACEABLE int thrd_create(thrd_t *thread, thrd_start_t function, void *argument)
 {
     return answered(pthread_create(thread, NULL, (void *(*)(void *))(void *)function, argument));

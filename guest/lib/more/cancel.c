@@ -1,8 +1,8 @@
-/* Threads that another one cancels: what a thread waits for that may be cancelled, in the place of guest/lib/sync.c's.
-   guest/build compiles this where a program calls pthread_cancel.
+/* Cancelling threads: the waits that can be cancelled, in place of those of guest/lib/sync.c. guest/build compiles this
+   if a program calls pthread_cancel.
 
-   A thread that waits stands in a list under the library's mutex, with a condition of its own: so whoever cancels it can
-   wake it, and whoever signals a condition, posts or ends wakes the first that waits for that. A semaphore's value is in
+   A waiting thread is in a list under the library's mutex, with a condition of its own. So a thread that cancels it can
+   wake it, and a signal, a post or a thread's end wakes the first thread that waits for it. A semaphore's value is in
    the object, under the same mutex. */
 #ifdef IT_CANCEL
 #include <errno.h>
@@ -17,7 +17,7 @@ static struct IT_PAGE_ALIGNED {
         const void *object;
         unsigned thread, condition;
         int *woken;
-    } waiter[IT_THREADS]; /* who came first is first */
+    } waiter[IT_THREADS]; /* in order of arrival */
 } all;
 
 static _Thread_local int state, type, woken;
@@ -51,7 +51,7 @@ static void unlock(void)
     it_call(IT_CALL_UNLOCK, IT_OWN_MUTEX, 0);
 }
 
-/* Before the library's mutex is locked. */
+/* Called before the library's mutex is locked. */
 static unsigned own_condition(void)
 {
     return it_number_or_end(IT_CONDITION, &woken);
@@ -63,7 +63,7 @@ static void leave(unsigned place)
         all.waiter[place] = all.waiter[place + 1];
 }
 
-/* Waits until the thread is woken at the object, with the library's mutex. Answers whether it is to end instead. */
+/* Waits at the object, with the library's mutex locked. Returns whether the thread was cancelled, and has to end. */
 static int wait_at(const void *object, unsigned condition)
 {
     woken = 0;
@@ -79,7 +79,7 @@ static int wait_at(const void *object, unsigned condition)
     return 1;
 }
 
-/* Wakes up to so many, with the library's mutex. */
+/* Wakes at most `most` threads, with the library's mutex locked. */
 static void wake(const void *object, unsigned most)
 {
     for (unsigned place = 0; place < all.count && most;)
@@ -102,7 +102,7 @@ static int wake_all(const void *object, unsigned most)
     return 0;
 }
 
-/* Gives up the library's mutex. */
+/* Unlocks the library's mutex. */
 static void end_wait(int ends)
 {
     unlock();
@@ -126,7 +126,7 @@ int pthread_cancel(pthread_t thread)
     return 0;
 }
 
-/* Ends a step, since nobody's store is seen before. */
+/* Ends the step: the store of another thread's pthread_cancel is seen only after a call. */
 void pthread_testcancel(void)
 {
     it_ordered_call(IT_CALL_YIELD, 0, 0);
@@ -167,7 +167,7 @@ void it_tell_end(void)
     unlock();
 }
 
-/* A thread that isn't there, and the caller itself, aren't waited for. */
+/* Returns at once if there is no such thread, or if it is the caller. */
 void it_wait_for_end(unsigned thread)
 {
     if (thread >= IT_THREADS || thread == it_self.number)
@@ -212,7 +212,7 @@ int pthread_cond_broadcast(pthread_cond_t *condition)
 
 /* ---------------------------------------------------------------------------------------------- semaphores ---- */
 
-/* Gives up the library's mutex. */
+/* Unlocks the library's mutex. */
 static int end(int error)
 {
     unlock();

@@ -1,5 +1,5 @@
-/* pthread_cleanup_push and pthread_cleanup_pop: each thread has a list of its own, on its stack. And whether a thread
-   may be cancelled, where nothing does it. */
+/* pthread_cleanup_push and pthread_cleanup_pop: each thread has a list of its own, on its stack. And the cancel state
+   and type, for programs that cancel no threads. */
 #include <errno.h>
 #include <pthread.h>
 #include "../library.h"
@@ -28,7 +28,7 @@ void it_run_cleanups(void)
         it_cleanup_pop(1);
 }
 
-#ifndef IT_CANCEL /* else these are of guest/lib/more/cancel.c */
+#ifndef IT_CANCEL /* else guest/lib/more/cancel.c has these */
 static _Thread_local int cancel_state, cancel_type;
 
 static int set(int *kept, int value, int *old)

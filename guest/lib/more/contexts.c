@@ -1,4 +1,4 @@
-/* Contexts: the registers that a function keeps are in a list at the context's begin. */
+/* Contexts: a context begins with the list of registers that a function preserves. */
 #include <pthread.h>
 #include <stdarg.h>
 #include <ucontext.h>
@@ -6,7 +6,7 @@
 
 enum { RA, SP, S0, S1, S2, IN_REGISTERS = 8, ALIGN = 16 };
 
-/* Only a program that blocks signals has it. */
+/* Linked only into a program that blocks signals. */
 extern __attribute__((weak)) int sigprocmask(int how, const sigset_t *restrict set, sigset_t *restrict old);
 
 #define EACH_REGISTER(of)                                                                                              \
@@ -15,8 +15,8 @@ extern __attribute__((weak)) int sigprocmask(int how, const sigset_t *restrict s
 #define KEEP(name, place) "sw " #name ", " #place "(a0)\n\t"
 #define LOAD(name, place) "lw " #name ", " #place "(a0)\n\t"
 
-/* it_begin_context calls a function of makecontext: s0 is the function, s1 what goes on then, and s2 to s9 are its
-   first words. */
+/* it_begin_context calls a function of makecontext: s0 is the function, s1 the context to resume after it, and s2 to s9
+   are its first words. */
 __asm__(".section .text.it_contexts,\"ax\",@progbits\n"
         ".globl getcontext, swapcontext, it_resume, it_begin_context\n"
         "getcontext:\n\t" EACH_REGISTER(KEEP) "tail it_keep_context\n"

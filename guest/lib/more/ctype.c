@@ -1,5 +1,5 @@
-/* The table of ctype.h where a char is signed, as guest/build has it: the C library was built with the other one. It
-   begins at -128; of a byte above 127 nothing is said, be it taken as a char or not. */
+/* The table of ctype.h for a signed char, as guest/build has it; the C library was built for the other kind. It begins
+   at -128; a byte above 127 has no class, whether it is taken as a char or not. */
 enum { UPPER = 1, LOWER = 2, DIGIT = 4, BLANK = 8, SIGN = 16, CONTROL = 32, HEXADECIMAL = 64, PRINTED = 128 };
 enum { ZERO = 128 }; /* its place */
 

@@ -7,7 +7,7 @@
 #include <string.h>
 #include "../library.h"
 
-/* main's words, behind the environment */
+/* main's words, after the environment */
 extern char *it_words[];
 
 static void say(const char *format, va_list arguments)
@@ -43,7 +43,7 @@ IT_REPLACEABLE void verrx(int code, const char *format, va_list arguments)
     exit(code);
 }
 
-/* A function of a format and arguments, by that of a list of them. */
+/* A function with a format and arguments, based on the one with a va_list. */
 #define BY_LIST(function, list, parameters, ...)                                                                       \
     IT_REPLACEABLE void function parameters                                                                            \
     {                                                                                                                  \

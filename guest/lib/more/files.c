@@ -1,6 +1,6 @@
-/* Files, on a system that has none: one empty directory, /, that nobody can write to, and the descriptors 0, 1 and 2,
-   which are as pipes are. Each function is that of the same name in POSIX.1-2017, System Interfaces, and its answer is
-   what POSIX says of such a system. */
+/* Files, on a system that has none: there are an empty directory, /, that can't be written to, and the descriptors 0, 1
+   and 2, which behave as pipes. Each function is that of the same name in POSIX.1-2017, System Interfaces, and its
+   result is what POSIX requires on such a system. */
 #include <errno.h>
 #include <fcntl.h>
 #include <stdio.h>
@@ -28,13 +28,13 @@ static int is_open(int descriptor)
     return descriptor >= STDIN_FILENO && descriptor <= STDERR_FILENO;
 }
 
-/* Of an open descriptor this error, or else that there is none. */
+/* Fails with this error if the descriptor is open, else with EBADF. */
 static int of_open(int descriptor, int error)
 {
     return fails(is_open(descriptor) ? error : EBADF);
 }
 
-/* The directory's names: those of slashes, and of one or two dots between them. */
+/* Whether the path names the directory: only slashes, with one or two dots between them. */
 static int is_root(const char *path)
 {
     if (!*path)
@@ -48,13 +48,13 @@ static int is_root(const char *path)
     return 1;
 }
 
-/* What is to be found answers this error where it is the directory. */
+/* For a path that must exist: fails with this error if it is the directory, else with ENOENT. */
 static int of_root(const char *path, int error)
 {
     return fails(is_root(path) ? error : ENOENT);
 }
 
-/* What is to be made. */
+/* For a path that is to be created. */
 static int no_place(const char *path)
 {
     return fails(!*path ? ENOENT : is_root(path) ? EEXIST : EROFS);
@@ -83,7 +83,7 @@ IT_REPLACEABLE int creat(const char *path, mode_t mode)
     return opened(path, O_WRONLY | O_CREAT | O_TRUNC);
 }
 
-/* The descriptor stays. */
+/* The descriptor stays open. */
 IT_REPLACEABLE int close(int descriptor)
 {
     return is_open(descriptor) ? 0 : fails(EBADF);
@@ -235,7 +235,7 @@ IT_REPLACEABLE int flock(int descriptor, int operation)
     return of_open(descriptor, EINVAL);
 }
 
-/* One piece after the other, until one isn't whole. */
+/* Transfers the pieces in order, until one isn't complete. */
 static ssize_t each(int descriptor, const struct iovec *pieces, int count, ssize_t (*transfer)(int, void *, size_t))
 {
     ssize_t all = 0;
@@ -375,7 +375,7 @@ IT_REPLACEABLE char *getcwd(char *to, size_t size)
     return strcpy(to, "/");
 }
 
-/* Nothing is ever made, so that the mask is never looked at. */
+/* No file is ever created, so the mask is never used. */
 IT_REPLACEABLE mode_t umask(mode_t mask)
 {
     (void)mask;
@@ -399,7 +399,7 @@ IT_REPLACEABLE char *mkdtemp(char *template)
 
 IT_GIVES(int, mkostemp, (char *template, int flags), ((void)flags, no_place(template)))
 
-/* Limits of what there could be, as on Linux. */
+/* Limits, as on Linux, although there are no files. */
 IT_REPLACEABLE long pathconf(const char *path, int name)
 {
     enum { LINKS = 127, LINE = 255, NAME = 255, PATH = 4096, PIPE = 4096 };
@@ -431,7 +431,7 @@ IT_GIVES(long, fpathconf, (int descriptor, int name), is_open(descriptor) ? path
 
 /* --------------------------------------------------------------------------------------------- from a directory ---- */
 
-/* Those that begin at a descriptor's directory. None of the descriptors has one. */
+/* Functions relative to a descriptor's directory. No descriptor is a directory. */
 #define FROM(function, parameters, by)                                                                                 \
     IT_REPLACEABLE int function parameters                                                                             \
     {                                                                                                                  \

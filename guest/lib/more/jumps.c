@@ -1,4 +1,4 @@
-/* Jumps that keep which signals the thread blocks. */
+/* Jumps that save and restore the set of blocked signals. */
 #include <setjmp.h>
 #include <signal.h>
 
@@ -8,7 +8,7 @@ void it_keep_blocked(sigjmp_buf buffer)
     pthread_sigmask(SIG_BLOCK, NULL, &buffer->blocked);
 }
 
-/* Only a program that keeps them has it. */
+/* Linked only into a program that saves the set. */
 extern __attribute__((weak)) int sigprocmask(int how, const sigset_t *restrict set, sigset_t *restrict old);
 
 void siglongjmp(sigjmp_buf buffer, int value)

@@ -1,4 +1,4 @@
-/* Handlers of an exit that get its code, and those of quick_exit. Each has a list, of which the last is called first. */
+/* Exit handlers that get the exit code, and those of quick_exit. Each kind has a list; the last one is called first. */
 #include <stdlib.h>
 #include <unistd.h>
 #include "../library.h"
@@ -11,7 +11,7 @@ static struct IT_PAGE_ALIGNED {
     struct { void (*function)(int, void *); void *argument; } of[MOST];
 } handlers;
 
-/* It stands among those of atexit once for each, so that all are called in their order. */
+/* It is registered with atexit once for each handler, so that all handlers are called in order. */
 static void call_last(void)
 {
     handlers.count--;

@@ -1,8 +1,8 @@
-/* printf and scanf of long double, which has 128 bits here: 113 of them are the number, and 15 its exponent. The C
-   library's own take it for a double. guest/build compiles this where a program has long doubles or a format with L.
+/* printf and scanf of long double, which has 128 bits here: 113 of mantissa and 15 of exponent. The C library's own
+   take it for a double. guest/build compiles this if a program has long doubles or a format with L.
 
-   All digits are as they are, rounded once, to the even digit where two are as near; behind the first MOST_DIGITS there
-   are zeros. */
+   All digits are exact, and rounded once, in a tie to the even digit; digits after the first MOST_DIGITS are
+   zeros. */
 #ifdef IT_LONG_DOUBLE
 #include <ctype.h>
 #include <stdarg.h>
@@ -20,7 +20,7 @@ typedef unsigned word;
 
 enum {
     FRACTION = 112, BIAS = 16383, SPECIAL = 32767, LIMBS = 4, WORDS = 518, WHOLE_DIGITS = 4934, MOST_DIGITS = 6000,
-    OF_EACH = 4, AT_ONCE = 4096 /* words that are gone through for a quarter of MOST */
+    OF_EACH = 4, AT_ONCE = 4096 /* words processed for a quarter of MOST */
 };
 
 struct parts {
@@ -44,7 +44,7 @@ static void work(struct parts *parts, unsigned words)
 
 /* ------------------------------------------------------------------------------------------- digits ---- */
 
-/* A number's sign, and mantissa * 2^exponent, the lowest word first. */
+/* A number's sign, and mantissa * 2^exponent; the lowest word of the mantissa is first. */
 struct binary {
     bool minus, special, zero;
     int exponent;
@@ -68,7 +68,7 @@ static struct binary binary_of(long double number)
     return it;
 }
 
-/* Bits of a mantissa from a place on, a word of them; the place may be outside. */
+/* The word of a mantissa's bits from a place on; bits outside of it are zero. */
 static word bits_at(const struct binary *it, int place)
 {
     unsigned long long both = 0;
@@ -93,13 +93,13 @@ static IT_NOINLINE void split(struct parts *parts, const struct binary *it)
         parts->part[k] = bits_at(it, -it->exponent - 32 * (int)(k + 1));
 }
 
-/* Digits d.ddd and the first one's power of ten. Behind them there are zeros. */
+/* Digits d.ddd and the power of ten of the first one. Zeros follow them. */
 struct decimal {
     int exponent, count;
     char digits[MOST_DIGITS + 1];
 };
 
-/* One more in the last digit. */
+/* Adds 1 to the last digit. */
 static void add_one(struct decimal *to)
 {
     int at = to->count;
@@ -113,7 +113,7 @@ static void add_one(struct decimal *to)
     to->exponent++;
 }
 
-/* Rounds a number to so many digits, or, with fixed_point, to so many behind the point. */
+/* Rounds a number to that many digits, or, with fixed_point, to that many after the point. */
 static IT_NOINLINE void round_digits(struct decimal *to, const struct binary *it, bool fixed_point, int wanted)
 {
     struct parts parts;
@@ -134,7 +134,7 @@ static IT_NOINLINE void round_digits(struct decimal *to, const struct binary *it
     bool odd = to->count && (to->digits[to->count - 1] & 1), up = wanted >= 0 && digit >= 5;
     if (up && digit == 5 && !odd)
         up = !is_zero(&parts);
-    if (to->count == 0) { /* all is behind the last place */
+    if (to->count == 0) { /* all digits are below the last place */
         to->exponent -= wanted;
         to->exponent += up && wanted == 0;
         to->digits[to->count++] = up ? '1' : '0';
@@ -147,14 +147,14 @@ static IT_NOINLINE void round_digits(struct decimal *to, const struct binary *it
 
 enum { LEFT = 1, PLUS = 2, SPACE = 4, OTHER = 8, ZEROS = 16 };
 
-/* A conversion; -1: no precision. */
+/* A conversion. precision is -1 if there is none. */
 struct conversion {
     unsigned flags;
     int width, precision;
     char length[3], kind;
 };
 
-/* Where bytes go, and how many went. */
+/* The stream, and the number of bytes written. */
 struct out {
     FILE *stream;
     int count;
@@ -178,7 +178,7 @@ static void put_many(struct out *out, char byte, int count)
         put(out, byte);
 }
 
-/* What a number is made of: a sign and 0x; digits before the point and behind it, each with zeros; and an exponent. */
+/* The parts of a number: a sign and 0x; the digits before and after the point, each with zeros; and an exponent. */
 struct text {
     char prefix[4], suffix[8];
     const char *whole, *behind;
@@ -217,7 +217,7 @@ static void put_text(struct out *out, const struct conversion *by, const struct 
         put_many(out, ' ', pad);
 }
 
-/* e+NN, or p+N: at least so many digits. */
+/* e+NN, or p+N: at least `least` digits. */
 static void write_exponent(char *to, char letter, int exponent, int least)
 {
     char digits[6];
@@ -238,7 +238,7 @@ static int smaller(int one, int other)
     return one < other ? one : other;
 }
 
-/* As d.ddd with so many digits behind the point. */
+/* As d.ddd with `precision` digits after the point. */
 static void with_exponent(struct text *text, const struct decimal *from, int precision, char letter)
 {
     text->whole = from->digits;
@@ -249,7 +249,7 @@ static void with_exponent(struct text *text, const struct decimal *from, int pre
     write_exponent(text->suffix, letter, from->exponent, 2);
 }
 
-/* As ddd.ddd with so many digits behind the point. */
+/* As ddd.ddd with `precision` digits after the point. */
 static void with_point(struct text *text, const struct decimal *from, int precision)
 {
     int whole = from->exponent + 1, at = whole > 0 ? smaller(whole, from->count) : 0;
@@ -312,7 +312,7 @@ static void put_hexadecimal(struct out *out, const struct conversion *by, struct
         for (int k = 0; k < cut - 1; k++)
             more |= bits_at(it, k) & 1;
         unsigned long long carry = up && (more || (bits_at(it, cut) & 1));
-        for (int k = 0; k < LIMBS; k++) { /* adds at the cut, and clears below */
+        for (int k = 0; k < LIMBS; k++) { /* adds at the cut, and clears the bits below */
             word add = carry && cut / 32 == k ? 1u << cut % 32 : 0;
             word below = cut >= 32 * (k + 1) ? ~0u : cut > 32 * k ? (1u << cut % 32) - 1 : 0;
             unsigned long long sum = (unsigned long long)(it->mantissa[k] & ~below) + add;
@@ -362,7 +362,7 @@ static IT_NOINLINE void put_long(struct out *out, const struct conversion *by, l
 
 /* ------------------------------------------------------------------------------------------- printf ---- */
 
-/* Whether a format has a conversion with L. Parts of a conversion are those of printf and of scanf. */
+/* Whether a format of printf or scanf has a conversion with L. */
 static bool has_long(const char *format)
 {
     while ((format = strchr(format, '%'))) {
@@ -392,7 +392,7 @@ static const char *read_length(const char *format, char *length)
     return format;
 }
 
-/* A conversion of which a width or a precision that is an argument was taken. */
+/* Writes a conversion whose width and precision, if they were arguments, have been read. */
 static void write_conversion(char *to, const struct conversion *by)
 {
     static const char flags[] = "-+ #0";
@@ -416,7 +416,7 @@ static void write_conversion(char *to, const struct conversion *by)
     *to = 0;
 }
 
-/* Of each argument only its size counts. */
+/* Skips an argument, of which only the size matters. */
 #define SKIP(arguments, by)                                                                                            \
     do {                                                                                                               \
         if (strchr("aAeEfFgG", (by)->kind))                                                                            \
@@ -496,14 +496,14 @@ static int scan(FILE *stream, const char *format, ...)
     return answer;
 }
 
-/* What is read of a number so far, and how many bytes may be more. */
+/* The text read of a number so far, and how many bytes may follow. */
 struct reading {
     FILE *stream;
     int left, taken, count;
     char text[1024];
 };
 
-/* Takes the next byte if it is one of these; gives it, or 0. */
+/* Takes the next byte if it is one of these, and returns it, else 0. */
 static char next_of(struct reading *reading, const char *bytes)
 {
     if (reading->left == 0)
@@ -531,7 +531,7 @@ static void word_of(struct reading *reading, const char *small, const char *larg
     }
 }
 
-/* Reads the longest text that may be the beginning of a number. */
+/* Reads the longest text that can be the start of a number. */
 static void read_text(struct reading *reading)
 {
     const char *digits = "0123456789", *mark = "eE";
@@ -564,7 +564,7 @@ static void read_text(struct reading *reading)
     }
 }
 
-/* Reads a long double. 1: there was one; 0: there was something else; EOF: nothing was left. *taken grows. */
+/* Reads a long double. Returns 1; 0 if it was something else; EOF at the end of the input. *taken grows. */
 static int scan_long(FILE *stream, int width, long double *number, int *taken)
 {
     struct reading reading = { .stream = stream, .left = width ? width : 1 << 30 };
@@ -583,8 +583,8 @@ static int scan_long(FILE *stream, int width, long double *number, int *taken)
     return reading.count && end == reading.text + reading.count;
 }
 
-/* The linker brings each vfscanf here. Each part of the format is read alone, with a %n that says whether all of it
-   was. */
+/* The linker redirects each vfscanf here. Each part of the format is read separately, with a %n that shows whether all
+   of it was. */
 int __wrap_vfscanf(FILE *stream, const char *format, va_list arguments)
 {
     int count = 0, taken = 0;
@@ -630,7 +630,7 @@ int __wrap_vfscanf(FILE *stream, const char *format, va_list arguments)
             }
             continue;
         }
-        if (by.kind == '[') { /* up to its end; a ] that comes first is one of the bytes */
+        if (by.kind == '[') { /* up to its end; a ] at the start is one of the bytes */
             format += *format == '^';
             format += *format == ']';
             while (*format && *format != ']')

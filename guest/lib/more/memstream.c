@@ -1,5 +1,5 @@
-/* POSIX.1-2017 open_memstream: a stream into memory that grows. Where it is, and how many bytes there are, is told at
-   each flush and at the close; a zero stands behind them. */
+/* POSIX.1-2017 open_memstream: a stream into memory that grows. Each flush and the close store its address and the
+   number of bytes; a zero follows the bytes. */
 #include <errno.h>
 #include <stdio.h>
 #include <stdlib.h>

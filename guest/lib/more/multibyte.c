@@ -1,4 +1,4 @@
-/* ISO C mbstowcs where each byte is a character; the C library's takes no null. */
+/* ISO C mbstowcs for one byte a character; the C library's doesn't accept a null pointer. */
 #include <stdlib.h>
 
 size_t mbstowcs(wchar_t *restrict to, const char *restrict from, size_t most)

@@ -1,4 +1,4 @@
-/* Semaphores that have names: those of one process. */
+/* Named semaphores, of one process. */
 #include <errno.h>
 #include <fcntl.h>
 #include <pthread.h>
@@ -27,7 +27,7 @@ static int end(int error)
     return -1;
 }
 
-/* A name without what it begins with, /; or null and an error. */
+/* A name without its leading slashes; or null, with errno set. */
 static const char *checked(const char *name)
 {
     name += strspn(name, "/");
@@ -48,7 +48,7 @@ static struct named *find(const char *name)
     return NULL;
 }
 
-/* One that has no name any more and that nobody has open. */
+/* One that has no name and isn't open. */
 static struct named *find_free(void)
 {
     for (struct named *named = all.of; named != all.of + IT_FOR_PROGRAMS; named++)

@@ -1,4 +1,4 @@
-/* The program's name, as glibc and BSD name it. */
+/* The program's name, in the variables of glibc and BSD. */
 #include <errno.h>
 #include "../library.h"
 

@@ -1,7 +1,7 @@
-/* Reader-writer locks for a program that tries to read: the machine has no call for that. guest/build compiles this where
-   a program calls pthread_rwlock_tryrdlock or its forms with a time. A lock is a mutex and a condition, and its state is
-   in the object: how many read, or that one writes, and how many wait to write. As in the machine, who comes to read
-   waits behind them. */
+/* Reader-writer locks for a program that tries to read, for which the machine has no call. guest/build compiles this if
+   a program calls pthread_rwlock_tryrdlock or a form of rdlock with a time. A lock is a mutex and a condition, and its
+   state is in the object: how many threads read, or that one writes, and how many wait to write. As in the machine, a
+   thread that comes to read waits behind these. */
 #ifdef IT_READ_TRIES
 #include <errno.h>
 #include <pthread.h>
@@ -9,7 +9,7 @@
 
 enum { WRITES = 0xFFFF, READERS = 0xFFFF, ONE_WAITS = 0x10000 };
 
-/* How many read locks the thread has of each lock; -1: it writes. */
+/* How many times the thread has locked each lock to read; -1 if it writes. */
 static _Thread_local int held[IT_OBJECTS];
 
 static int is_free_to(int state, int write)
@@ -27,7 +27,7 @@ static void leave(unsigned number)
     it_call(IT_CALL_UNLOCK, number, 0);
 }
 
-/* Takes the lock, which is free to the thread. */
+/* Takes the lock, which the thread may have now. */
 static void take(pthread_rwlock_t *lock, unsigned number, int write)
 {
     lock->unused += write ? WRITES : 1;
@@ -67,7 +67,7 @@ static int wait(pthread_rwlock_t *lock, int write)
     return 0;
 }
 
-/* A lock that the thread has already is busy for who only tries. */
+/* For a call that only tries, a lock that the thread already holds is busy. */
 static int tried(int answer)
 {
     return answer == EDEADLK ? EBUSY : answer;

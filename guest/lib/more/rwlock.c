@@ -1,18 +1,18 @@
-/* Reader-writer locks: each call is the machine's of the same name, with the lock's number. A lock's number is found as
-   a mutex's is, in a table of their own: a program without such locks hasn't its page. */
+/* Reader-writer locks: each call is the machine's of the same name, with the lock's number. The number is found as for
+   a mutex, but in a table of its own, so that a program without such locks doesn't have its page. */
 #include <errno.h>
 #include <pthread.h>
 #include "../attributes.h"
 #include "../library.h"
-#ifndef IT_READ_TRIES /* else the locks are those of read_tries.c */
+#ifndef IT_READ_TRIES /* else read_tries.c has the locks */
 #include "../table.h"
 
 static struct table locks;
 
-/* How many read locks the thread has of each lock beside the machine's one. */
+/* How many times the thread has locked each lock to read, besides the machine's one time. */
 static _Thread_local unsigned more[IT_OBJECTS];
 
-/* The number of a lock: one that isn't known gets one. -1 if all are given out. */
+/* Returns the number of a lock, and gives it one if it has none; -1 if all are in use. */
 static int number_of(const pthread_rwlock_t *lock)
 {
     unsigned place;
@@ -71,7 +71,7 @@ IT_REPLACEABLE int pthread_rwlock_destroy(pthread_rwlock_t *lock)
     return 0;
 }
 
-/* The machine answers EAGAIN to who reads already. */
+/* The machine returns EAGAIN if the thread already reads. */
 IT_REPLACEABLE int pthread_rwlock_rdlock(pthread_rwlock_t *lock)
 {
     unsigned number = number_or_end(lock);

@@ -1,5 +1,5 @@
-/* Policies, priorities, names and other things that are kept for who asks for them, and change nothing. */
-#define _GNU_SOURCE /* for sets of processors */
+/* Policies, priorities, names and other properties that are kept, so that they can be read back, and have no effect. */
+#define _GNU_SOURCE /* for cpu_set_t */
 #include <errno.h>
 #include <pthread.h>
 #include <sched.h>
@@ -59,7 +59,7 @@ IT_ATTRIBUTE(, pthread_attr_getinheritsched, pthread_attr_t, int, inherit)
 
 /* ---------------------------------------------------------------------------------------------- threads ---- */
 
-/* What was set for threads. */
+/* The properties set for threads. */
 static struct IT_PAGE_ALIGNED {
     struct { short policy, priority; } of[IT_THREADS];
     unsigned char affinity[IT_THREADS]; /* 0: all */
@@ -219,7 +219,7 @@ IT_REPLACEABLE int sched_get_priority_max(int policy)
     return is_policy(policy) ? policy == SCHED_OTHER ? 0 : HIGHEST : told(EINVAL);
 }
 
-/* The process is main's thread. */
+/* For a process these act on main's thread. */
 static int is_process(pid_t process)
 {
     return process == 0 || process == IT_PROCESS;

@@ -1,5 +1,5 @@
-/* Signals that a program sends to itself. Which wait, and what is done by each, all threads see on one page; which are
-   blocked is a thread's own. A handler is a call in the function that sends or unblocks its signal. */
+/* Signals that a program sends to itself. Pending signals and actions are on one page that all threads share; the set
+   of blocked signals is a thread's own. A handler is called in the function that sends or unblocks its signal. */
 #include <errno.h>
 #include <signal.h>
 #include <stdio.h>
@@ -11,11 +11,11 @@ enum { INTERNAL = 32, MOST_WAITING = 128, WHOLE_PROCESS = IT_THREADS, BY_SIGNAL 
 
 static struct IT_PAGE_ALIGNED {
     struct sigaction action[NSIG];
-    unsigned count, waiters; /* who waits for a signal */
+    unsigned count, waiters; /* threads that wait for a signal */
     struct waiting {
         siginfo_t info;
         unsigned thread; /* or WHOLE_PROCESS */
-    } waiting[MOST_WAITING]; /* what came first is first */
+    } waiting[MOST_WAITING]; /* in order of arrival */
 } all;
 
 static _Thread_local sigset_t blocked;
@@ -29,7 +29,7 @@ static int fails(int error)
     return -1;
 }
 
-/* The two behind the standard signals are glibc's own on Linux. */
+/* The two numbers after the standard signals are glibc's own on Linux. */
 static int exists(int number)
 {
     return number > 0 && number < NSIG && (number < INTERNAL || number >= SIGRTMIN);
@@ -80,7 +80,7 @@ int sigismember(const sigset_t *set, int number)
 
 /* ---------------------------------------------------------------------------------------------- taking ---- */
 
-/* Whether the thread takes the first before the second: its own before the process's, and then the lower number. */
+/* Whether the thread takes the first before the second: its own before the process's, then the lower number first. */
 static int goes_before(const struct waiting *first, const struct waiting *second)
 {
     if (first->thread != second->thread)
@@ -88,7 +88,7 @@ static int goes_before(const struct waiting *first, const struct waiting *second
     return first->info.si_signo < second->info.si_signo;
 }
 
-/* Where the next of a set is that the thread may take; or the count. */
+/* The place of the next signal of a set that the thread may take; all.count if there is none. */
 static unsigned next_of(sigset_t set)
 {
     unsigned found = all.count;
@@ -136,7 +136,7 @@ static __attribute__((noreturn)) void end_by(int number)
 
 static void take_all(void);
 
-/* As on Linux what else waits and isn't blocked is handled first. */
+/* As on Linux, other pending signals that the handler doesn't block are handled first. */
 static void handle(siginfo_t *info)
 {
     int number = info->si_signo;
@@ -247,7 +247,7 @@ IT_REPLACEABLE int sigqueue(pid_t process, int number, const union sigval value)
     return answered(process == getpid() ? send(WHOLE_PROCESS, number, SI_QUEUE, value) : ESRCH);
 }
 
-/* POSIX.1-2017 abort raises SIGABRT, be it blocked or not. */
+/* POSIX.1-2017 abort raises SIGABRT even if it is blocked. */
 void it_raise_abort(void)
 {
     _sig_func_ptr handler = all.action[SIGABRT].sa_handler;

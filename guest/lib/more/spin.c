@@ -1,4 +1,4 @@
-/* Spin locks: a spin lock is one of the machine's mutexes. A thread that spun wouldn't see the lock given up. */
+/* Spin locks: each is one of the machine's mutexes. A thread that really spun would never see the lock released. */
 #include <errno.h>
 #include <pthread.h>
 #include "../library.h"

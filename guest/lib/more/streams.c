@@ -1,4 +1,4 @@
-/* What of stdio the C library leaves out: a stream's lock, prints to a descriptor, and places in a stream. */
+/* Functions of stdio that the C library omits: locks of streams, prints to a descriptor, and positions in a stream. */
 #include <errno.h>
 #include <pthread.h>
 #include <stdarg.h>
@@ -6,7 +6,7 @@
 #include <unistd.h>
 #include "../library.h"
 
-/* How often the thread has locked each stream that it has. */
+/* How often the thread has locked each stream that it holds. */
 static _Thread_local unsigned locked[IT_OBJECTS];
 
 static int lock_by(enum it_call call, FILE *stream)

@@ -1,4 +1,4 @@
-/* What a program asks the system for: limits, who it is, a stream's descriptor, and what malloc has. */
+/* Queries to the system: limits, user and process ids, a stream's descriptor, and the state of malloc. */
 #include <errno.h>
 #include <limits.h>
 #include <malloc.h>
@@ -31,7 +31,7 @@ IT_REPLACEABLE void malloc_stats(void)
     fprintf(stderr, "system bytes     = %10u\nin use bytes     = %10u\n", info.arena, info.uordblks);
 }
 
-/* -1 without an error: there is no limit, or there is no such thing. */
+/* -1 without an error means that there is no limit, or no such feature. */
 IT_REPLACEABLE long sysconf(int name)
 {
     switch (name) {
@@ -116,7 +116,7 @@ IT_GIVES(uid_t, geteuid, (void), USER)
 IT_GIVES(gid_t, getgid, (void), USER)
 IT_GIVES(gid_t, getegid, (void), USER)
 
-/* To become who one is changes nothing. -1 among two: that one stays. */
+/* Succeeds if nothing changes. In a call with two ids, -1 (`stay`) keeps the current one. */
 static int become(unsigned real, unsigned effective, unsigned stay)
 {
     if ((real == USER || real == stay) && (effective == USER || effective == stay))

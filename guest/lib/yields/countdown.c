@@ -1,6 +1,6 @@
-/* The yields of `guest/build --yield-every N`. guest/yields.awk puts a countdown at the head of each loop of the program
-   and at the begin of each function; at 0 it comes here. Each of the machine's calls sets it to N again: so a step
-   begins with N, whatever went before. */
+/* The yields of `guest/build --yield-every N`. guest/yields.awk puts a countdown at the head of each loop of the
+   program, at the begin of each function and before indirect jumps; at 0 it comes here. Each of the machine's calls
+   sets it to N, so a step begins with N, whatever came before. */
 #include "../library.h"
 
 _Thread_local int it_countdown = IT_YIELD_EVERY;
@@ -10,7 +10,7 @@ __attribute__((used)) static void over(void)
     it_call(IT_CALL_YIELD, 0, 0);
 }
 
-/* Comes with the return address in t5, and leaves all other registers but t6 as they are. */
+/* Called with the return address in t5; keeps all other registers but t6. */
 __asm__(".section .text.it_countdown_over,\"ax\",@progbits\n"
         ".globl it_countdown_over\n"
         "it_countdown_over:\n\t"
