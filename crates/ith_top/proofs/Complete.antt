@@ -19,14 +19,14 @@ use Rattle.elf_spec.specs.Image.{is_image}
 use Rattle.rerun_spec.specs.Inputs.{AreInputs, AreRerunInputs}
 use Rattle.rerun_spec.proofs.Inputs.{inputs-unrefused, rerun-unrefused}
 use Rattle.ith_words.specs.Words.{Text, Line, Runs, Reruns, Replays, Shows, Explains, FindsRaces, Audits, Generates, RunLine, RerunLine, ReplayLine, AuditLine, GenerateLine}
-use Rattle.ith_top.specs.declared.status.Status.{Status}
-use Rattle.ith_top.specs.declared.status.Status.TheVariants as status
-use Rattle.ith_top.specs.Statuses.{code_of}
-use Rattle.ith_top.specs.Files.{Named, StopsAt, FailedToRead, IsLong, files_named, lists_named, memo_named}
-use Rattle.ith_top.specs.Contents.{AreLists, ReplayContents, AreReplayContents, replay_setup_of, CanBeReplayed, IsMemoContent, IsMemoOf, as_rerun, as_show}
-use Rattle.ith_top.specs.Ends.{OfNone, IsUnkept, IsUnprinted, ScheduleRefusal, Token, Entry, Incomplete, RefusesSchedule, IsMemoRefused, IsRerunMemoRefused, IsRerunListRefused, IsReplayImageRefused, RefusesImage, RefusesList, TextEnds, EndsBy, RoundsEnd, ReplayEnds, AuditEnds, GenerateEnds, Answers}
+use Rattle.ith_commands.specs.declared.status.Status.{Status}
+use Rattle.ith_commands.specs.declared.status.Status.TheVariants as status
+use Rattle.ith_commands.specs.Statuses.{code_of}
+use Rattle.ith_commands.specs.Files.{Named, StopsAt, FailedToRead, IsLong, files_named, lists_named, memo_named}
+use Rattle.ith_commands.specs.Contents.{AreLists, ReplayContents, AreReplayContents, replay_setup_of, CanBeReplayed, IsMemoContent, IsMemoOf, as_rerun, as_show}
+use Rattle.ith_commands.specs.Ends.{OfNone, IsUnkept, IsUnprinted, ScheduleRefusal, Token, Entry, Incomplete, RefusesSchedule, IsMemoRefused, IsRerunMemoRefused, IsRerunListRefused, IsReplayImageRefused, RefusesImage, RefusesList, TextEnds, EndsBy, RoundsEnd, ReplayEnds, AuditEnds, GenerateEnds, Answers}
 use Rattle.ith_top.specs.Completing.{AreStated, HasNoFault, AreAccepted, IsAcceptedMemo, AreRerunAccepted, IsReplayAccepted, IsCompleted, IsReported, IsListed, IsJudged, Completes}
-use Rattle.ith_top.proofs.Permitting.{first-permitted}
+use Rattle.ith_commands.proofs.Permitting.{first-permitted}
 
 none_there : (fact : Named → Type 0) (earlier : List Named) (file : Named) (later : List Named)
     → OfNone fact (earlier ++ file ∷ later) → fact file → ⊥

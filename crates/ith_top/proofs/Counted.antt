@@ -4,14 +4,14 @@ use Rattle.std.specs.Prelude.{Result, Ok, Err, IfOk, IfErr}
 use Rattle.rerun_spec.proofs.Inputs.{inputs-count, rerun-count}
 use Rattle.ith_host.specs.World.{World}
 use Rattle.ith_words.specs.Words.{Text, Line, Runs, Reruns, RunLine, RerunLine}
-use Rattle.ith_top.specs.declared.status.Status.{Status}
-use Rattle.ith_top.specs.declared.status.Status.TheVariants as status
-use Rattle.ith_top.specs.Contents.{AreLists, Plan, IsRunPlan, IsRerunPlan}
-use Rattle.ith_top.specs.Counting.{Work, MakesRounds, rounds_asked}
-use Rattle.ith_top.specs.Statuses.{status_in}
-use Rattle.ith_top.specs.Ends.{EndsEarly}
-use Rattle.ith_top.specs.Refusals.{WhyUndone}
-use Rattle.ith_top.specs.Playing.{IsCarriedOut}
+use Rattle.ith_commands.specs.declared.status.Status.{Status}
+use Rattle.ith_commands.specs.declared.status.Status.TheVariants as status
+use Rattle.ith_commands.specs.Contents.{AreLists, Plan, IsRunPlan, IsRerunPlan}
+use Rattle.ith_commands.specs.Counting.{Work, MakesRounds, rounds_asked}
+use Rattle.ith_commands.specs.Statuses.{status_in}
+use Rattle.ith_commands.specs.Ends.{EndsEarly}
+use Rattle.ith_commands.specs.Refusals.{WhyUndone}
+use Rattle.ith_commands.specs.Playing.{IsCarriedOut}
 
 -- as many lists are read as have names
 lists_count : (a : World) (names : List Text) (lists : List (List ℕ)) → AreLists a names lists

@@ -8,18 +8,18 @@ use Rattle.history_spec.specs.History.{History}
 use Rattle.rerun_spec.specs.Rounds.{Found}
 use Rattle.ith_host.specs.World.{World, NoneFell, Stays, AsksNothing}
 use Rattle.ith_words.specs.Words.{Text, Line}
-use Rattle.ith_top.specs.declared.status.Status.{Status}
-use Rattle.ith_top.specs.declared.status.Status.TheVariants as status
-use Rattle.ith_top.specs.Statuses.{status_in}
-use Rattle.ith_top.specs.Contents.{Plan, workers_of}
-use Rattle.ith_top.specs.Ends.{HasRounds, texts_of, left_of, new_memo_of, Prints, PrintsAndKeeps, IsKeptWithin, IsDone, RoundsEnd}
-use Rattle.ith_top.specs.Counting.{Work, SpendsTurns, RoundsSpend}
-use Rattle.ith_top.specs.Refusals.{Keeps, WhyCutShort, WhyUnkept, WhyUndone}
-use Rattle.ith_top.specs.Playing.{IsPrepared, AreFound, IsPlayed, IsCarriedOut}
-use Rattle.ith_top.proofs.Worlds.{rose_before}
-use Rattle.ith_top.proofs.Going.{prints_after, prints_then}
+use Rattle.ith_commands.specs.declared.status.Status.{Status}
+use Rattle.ith_commands.specs.declared.status.Status.TheVariants as status
+use Rattle.ith_commands.specs.Statuses.{status_in}
+use Rattle.ith_commands.specs.Contents.{Plan, workers_of}
+use Rattle.ith_commands.specs.Ends.{HasRounds, texts_of, left_of, new_memo_of, Prints, PrintsAndKeeps, IsKeptWithin, IsDone, RoundsEnd}
+use Rattle.ith_commands.specs.Counting.{Work, SpendsTurns, RoundsSpend}
+use Rattle.ith_commands.specs.Refusals.{Keeps, WhyCutShort, WhyUnkept, WhyUndone}
+use Rattle.ith_commands.specs.Playing.{IsPrepared, AreFound, IsPlayed, IsCarriedOut}
+use Rattle.ith_commands.proofs.Worlds.{rose_before}
+use Rattle.ith_commands.proofs.Printing.{prints_after, prints_then}
 use Rattle.ith_top.proofs.Promises.{promised_of, each_kept}
-use Rattle.ith_top.proofs.Spent.{rounds_unspent}
+use Rattle.ith_commands.proofs.Spent.{rounds_unspent}
 
 -- the rounds of a line's plan, as far as they were found
 pub rounds_in :

@@ -22,19 +22,20 @@ use Rattle.rerun_spec.proofs.Rounds.{IsSoundlyMade, each-round, scratch-begins, 
 use Rattle.round_report.specs.Short.{short_text, short_of, made_short}
 use Rattle.ith_host.specs.World.{World, Stays, AsksNothing}
 use Rattle.ith_words.specs.Words.{Generates, GenerateLine, default_fuel, default_limit}
-use Rattle.ith_top.specs.declared.status.Status.{Status}
-use Rattle.ith_top.specs.declared.status.Status.TheVariants as status
-use Rattle.ith_top.specs.Contents.{Plan, IsGeneratedPlan}
-use Rattle.ith_top.specs.Statuses.{status_in}
-use Rattle.ith_top.specs.Ends.{Prints, HasRounds, IsGenerated, generated_text, Ends}
-use Rattle.ith_top.specs.Rounds.{rounds_of}
-use Rattle.ith_top.specs.Refusals.{WhyUnprinted}
-use Rattle.ith_top.specs.Counting.{Work, IsCounted, turns_for, MakesRounds, SpendsTurns, GenerateSpends}
-use Rattle.ith_top.specs.Playing.{AreFound, AreTheGenerated, CanBePlayed, CanBeEncoded, IsMadeOn}
+use Rattle.ith_commands.specs.declared.status.Status.{Status}
+use Rattle.ith_commands.specs.declared.status.Status.TheVariants as status
+use Rattle.ith_commands.specs.Contents.{Plan, IsGeneratedPlan}
+use Rattle.ith_commands.specs.Statuses.{status_in}
+use Rattle.ith_commands.specs.Ends.{Prints, HasRounds, IsGenerated, generated_text, Ends}
+use Rattle.ith_commands.specs.Rounds.{rounds_of}
+use Rattle.ith_commands.specs.Refusals.{WhyUnprinted}
+use Rattle.ith_commands.specs.Counting.{Work, IsCounted, turns_for, MakesRounds, SpendsTurns, GenerateSpends}
+use Rattle.ith_commands.specs.Playing.{AreFound, AreTheGenerated, CanBePlayed, CanBeEncoded}
+use Rattle.ith_top.specs.Making.{IsMadeOn}
 use Rattle.ith_top.specs.declared.report.Form.TheVariants as form
-use Rattle.ith_top.proofs.Worlds.{stays_same, none_fell_same}
-use Rattle.ith_top.proofs.Asking.{unbegun}
-use Rattle.ith_top.proofs.Going.{in_part}
+use Rattle.ith_commands.proofs.Worlds.{stays_same, none_fell_same}
+use Rattle.ith_commands.proofs.Asking.{unbegun}
+use Rattle.ith_commands.proofs.Printing.{in_part}
 use Rattle.ith_top.proofs.Promises.{promised_from_scratch, promised_of, each_kept}
 
 -- the line of a round that was made soundly is that of the machine from scratch

@@ -14,14 +14,16 @@ use Rattle.rerun_spec.specs.Rounds.{Found, Round, Beginning, IsMade, IsWatched, 
 use Rattle.rerun_spec.specs.Reports.{made_report, made_reports, made_exits, all_made_exit}
 use Rattle.ith_host.specs.World.{World, NoneFell, Stays, AsksNothing}
 use Rattle.ith_top.specs.declared.report.Form.TheVariants as form
-use Rattle.ith_top.specs.declared.status.Status.{Status}
-use Rattle.ith_top.specs.declared.status.Status.TheVariants as status
-use Rattle.ith_top.specs.Ends.{Prints, IsPrintedInPart}
-use Rattle.ith_top.specs.Contents.{Plan}
-use Rattle.ith_top.specs.Refusals.{WhyUnprinted, IsPlayedInPart}
-use Rattle.ith_top.specs.Counting.{Work, IsCounted, turns_for}
-use Rattle.ith_top.specs.Playing.{AreFound, IsMadeOn, IsPlayed}
-use Rattle.ith_top.proofs.Worlds.{none_fell_trans, rose_before}
+use Rattle.ith_commands.specs.declared.status.Status.{Status}
+use Rattle.ith_commands.specs.declared.status.Status.TheVariants as status
+use Rattle.ith_commands.specs.Ends.{Prints, IsPrintedInPart}
+use Rattle.ith_commands.specs.Contents.{Plan}
+use Rattle.ith_commands.specs.Refusals.{WhyUnprinted, IsPlayedInPart}
+use Rattle.ith_commands.specs.Counting.{Work, IsCounted, turns_for}
+use Rattle.ith_commands.specs.Playing.{AreFound, IsPlayed}
+use Rattle.ith_top.specs.Making.{IsMadeOn}
+use Rattle.ith_commands.proofs.Worlds.{none_fell_trans, rose_before}
+use Rattle.ith_commands.proofs.Printing.{prints_none, prints_both}
 
 -- the rounds so far were made and printed, and the counter rose by their turns, from one number to the other; and those
 -- to come, whatever is found of them, begin where the last one left off
@@ -40,61 +42,6 @@ pub record IsGoing (b : Beginning) (workers : ℕ) (inputs : List (List ℕ)) (a
   pub ended : exit ≡ list_all made_exits done
   pub counts : NoneFell a w
   pub asked : AsksNothing a w
-
-appends-none : (reported : Option (List ℕ)) → Appends reported reported []
-appends-none None = tt
-appends-none (Some bytes) = sym (append-nil bytes)
-
-appends-both : (a b c : Option (List ℕ)) (one other : List ℕ) → Appends a b one → Appends b c other
-    → Appends a c (one ++ other)
-appends-both None b c one other first second = tt
-appends-both (Some x) None c one other first second = absurd first
-appends-both (Some x) (Some y) None one other first second = absurd second
-appends-both (Some x) (Some y) (Some z) one other first second = second ∙ ap (λ (l : List ℕ). l ++ other) first
-    ∙ append_assoc x one other
-
-prints_none : (a : World) → Prints a a []
-prints_none a = record { is_stated = refl; files = refl; printed = appends-none a.printed }
-
-prints_both : (a b c : World) (one other : List ℕ) → Prints a b one → Prints b c other → Prints a c (one ++ other)
-prints_both a b c one other first second =
-    record {
-      is_stated = second.is_stated ∙ first.is_stated;
-      files = second.files ∙ first.files;
-      printed = appends-both a.printed b.printed c.printed one other first.printed second.printed;
-    }
-
--- printing, and then a change that leaves files and printed bytes
-pub prints_then : (a b c : World) (bytes : List ℕ) → Prints a b bytes → Stays b c → Prints a c bytes
-prints_then a b c bytes prints stays =
-    record {
-      is_stated = stays.is_stated ∙ prints.is_stated;
-      files = stays.files ∙ prints.files;
-      printed = subst (λ (reported : Option (List ℕ)). Appends a.printed reported bytes) (sym stays.printed) prints.printed;
-    }
-
--- printing after a change that leaves files and printed bytes
-pub prints_after : (a b c : World) (bytes : List ℕ) → Stays a b → Prints b c bytes → Prints a c bytes
-prints_after a b c bytes stays prints =
-    record {
-      is_stated = prints.is_stated ∙ stays.is_stated;
-      files = prints.files ∙ stays.files;
-      printed = subst (λ (reported : Option (List ℕ)). Appends reported c.printed bytes) stays.printed prints.printed;
-    }
-
--- a text wasn't printed whole
-pub in_part :
-    (text : List ℕ) (a b c : World) → Stays a b → NoneFell a b → WhyUnprinted text b c status.WriteFault
-    → IsPrintedInPart (text ∷ []) a c
-in_part text a b c stays fell why =
-    record {
-      cause = rose_before _ _ _ fell.prints why.0;
-      whole = 0;
-      next = text;
-      is_next = refl;
-      count = why.1.0;
-      prints = prints_after a b c _ stays why.1.1;
-    }
 
 concat-more : (texts : List (List ℕ)) (text : List ℕ) → concat (texts ++ text ∷ []) ≡ concat texts ++ text
 concat-more [] text = append-nil text

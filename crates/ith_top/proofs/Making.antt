@@ -20,8 +20,8 @@ use Rattle.rerun_spec.specs.Reports.{extras_of, made_extras, data_as_made, is_ex
 use Rattle.rerun_spec.proofs.Ending.{left-own}
 use Rattle.round_report.specs.Short.{short_text}
 use Rattle.rerun_workers.specs.Making.{IsCostOf}
-use Rattle.ith_top.specs.Counting.{IsCounted}
-use Rattle.ith_top.specs.Playing.{text_by, round_text_by, IsMadeOn}
+use Rattle.ith_commands.specs.Counting.{IsCounted}
+use Rattle.ith_top.specs.Making.{text_by, round_text_by, IsMadeOn}
 use Rattle.ith_top.specs.declared.report.Form.{Form}
 use Rattle.ith_top.specs.declared.report.Form.TheVariants as form
 

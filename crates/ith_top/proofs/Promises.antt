@@ -22,11 +22,11 @@ use Rattle.rerun_spec.specs.Encoded.{IsEncodedPast}
 use Rattle.rerun_spec.proofs.Events.{round-encoded}
 use Rattle.ith_host.specs.World.{World}
 use Rattle.ith_words.specs.Words.{Line, Runs, Reruns, Replays, Shows, Explains, FindsRaces, Audits, Generates, RerunLine}
-use Rattle.ith_top.specs.Contents.{Plan, IsRerunPlan, IsPlan, setup_of, as_rerun, workers_of, limits_for}
+use Rattle.ith_commands.specs.Contents.{Plan, IsRerunPlan, IsPlan, setup_of, as_rerun, workers_of, limits_for}
 use Rattle.rerun_spec.specs.Making.{OnlyRepeats}
-use Rattle.ith_top.specs.Rounds.{IsPromised, ArePromised, BeginsHonestly, CanBeKept, rounds_of}
-use Rattle.ith_top.specs.Ends.{left_of}
-use Rattle.ith_top.specs.Playing.{AreFound, CanBePlayed, CanBeEncoded}
+use Rattle.ith_commands.specs.Rounds.{IsPromised, ArePromised, BeginsHonestly, CanBeKept, rounds_of}
+use Rattle.ith_commands.specs.Ends.{left_of}
+use Rattle.ith_commands.specs.Playing.{AreFound, CanBePlayed, CanBeEncoded}
 
 -- what is promised of a round holds of each that was made by a history that it can go by
 promised : (workers : ℕ) (r : Round) → IsSoundlyMade workers r → IsPromised workers r

@@ -5,11 +5,11 @@ use Rattle.history_spec.specs.History.{History}
 use Rattle.rerun_spec.specs.Inputs.{AreInputs, AreRerunInputs}
 use Rattle.ith_host.specs.World.{World, Rose}
 use Rattle.ith_words.specs.Words.{Text, Line, Runs, Reruns, Replays, Shows, Explains, FindsRaces, Audits, Generates, RunLine, RerunLine, ReplayLine}
-use Rattle.ith_top.specs.declared.status.Status.TheVariants as status
-use Rattle.ith_top.specs.Files.{FailedToRead, files_named}
-use Rattle.ith_top.specs.Contents.{AreLists, Contents, WasRead, ReplayContents, WasReplayRead, replay_setup_of, CanBeReplayed, IsMemoContent, IsMemoOf, as_rerun}
-use Rattle.ith_top.specs.Ends.{OfNone, new_memo_of, IsTooLargeToKeep}
-use Rattle.ith_top.specs.Statuses.{code_of}
+use Rattle.ith_commands.specs.declared.status.Status.TheVariants as status
+use Rattle.ith_commands.specs.Files.{FailedToRead, files_named}
+use Rattle.ith_commands.specs.Contents.{AreLists, Contents, WasRead, ReplayContents, WasReplayRead, replay_setup_of, CanBeReplayed, IsMemoContent, IsMemoOf, as_rerun}
+use Rattle.ith_commands.specs.Ends.{OfNone, new_memo_of, IsTooLargeToKeep}
+use Rattle.ith_commands.specs.Statuses.{code_of}
 
 -- The host failed at no call of the command line: no count of faults rose.
 pub record HasNoFault (line : Line) (before after : World) : Type 0 where

@@ -1,11 +1,3 @@
 -- The files of definitions of this crate.
-pub mod Statuses
-pub mod Files
-pub mod Contents
-pub mod Rounds
-pub mod Explaining
-pub mod Ends
+pub mod Making
 pub mod Completing
-pub mod Counting
-pub mod Playing
-pub mod Refusals

@@ -6,7 +6,7 @@ ghost use Rattle.round_spec.specs.Schedules.{IsBySchedule};
 ghost use Rattle.round_spec.specs.Workers.{IsMadeBy};
 ghost use Rattle.round_spec.specs.Watching.{IsProgress};
 ghost use Rattle.rerun_workers.specs.Making.{IsRoundBy, IsCostOf};
-ghost use Rattle.ith_top.specs.Counting.{Spends};
+ghost use Rattle.ith_commands.specs.Counting.{Spends};
 
 use ith_host::Gate;
 use propagate::Round;
@@ -26,7 +26,7 @@ struct Work {
 }
 
 impl Model for Work {
-    ghost use Rattle.ith_top.specs.Counting as spec;
+    ghost use Rattle.ith_commands.specs.Counting as spec;
 
     ghost Value = { spec.Work };
 

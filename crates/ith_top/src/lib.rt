@@ -3,7 +3,7 @@
 
 ghost use Rattle.std.specs.Prelude.{map, string_bytes};
 ghost use Rattle.ith_words.specs.Words.{line_of};
-ghost use Rattle.ith_top.specs.Ends.{Answers};
+ghost use Rattle.ith_commands.specs.Ends.{Answers};
 ghost use Rattle.ith_top.specs.Completing.{Completes};
 
 use ith_host::{Gate, Host};
@@ -11,24 +11,13 @@ use std::alloc::Global;
 use std::sync::Wait;
 use std::thread::Threads;
 
-mod auditing;
-mod complaints;
 mod crew;
-mod explaining;
-mod files;
 mod generating;
-mod keeping;
-mod outside;
-mod plan;
 mod program;
-mod racing;
-mod replaying;
 mod report;
 mod rounds;
-mod showing;
-mod status;
 
-pub use status::Status;
+pub use ith_commands::Status;
 
 /// Does what the arguments request, and returns the exit status. The first argument is the program's name.
 ///

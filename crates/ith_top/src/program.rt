@@ -5,24 +5,18 @@ ghost use Rattle.ith_host.specs.World.{AsksNothing};
 ghost use Rattle.ith_words.specs.Words as said;
 ghost use Rattle.ith_words.specs.Words.{Runs, Reruns};
 ghost use Rattle.ith_words.specs.Said.{run_said, rerun_said};
-ghost use Rattle.ith_top.specs.Statuses.{status_in};
-ghost use Rattle.ith_top.specs.Ends.{Ends};
-ghost use Rattle.ith_top.specs.Counting.{MakesRounds, RoundsSpend};
-ghost use Rattle.ith_top.specs.Refusals.{WhyUndone};
-ghost use Rattle.ith_top.specs.Playing.{plan_said, CanBePlayed, CanBeEncoded, IsCarriedOut};
+ghost use Rattle.ith_commands.specs.Statuses.{status_in};
+ghost use Rattle.ith_commands.specs.Ends.{Ends};
+ghost use Rattle.ith_commands.specs.Counting.{MakesRounds, RoundsSpend};
+ghost use Rattle.ith_commands.specs.Refusals.{WhyUndone};
+ghost use Rattle.ith_commands.specs.Playing.{plan_said, CanBePlayed, CanBeEncoded, IsCarriedOut};
 
-use super::auditing::audit;
-use super::complaints::NO_MEMORY;
 use super::crew::Crew;
-use super::explaining::explain;
 use super::generating::generate;
-use super::keeping::write_memo;
-use super::plan::{Plan, prepare, prepare_rerun};
-use super::racing::find_races;
-use super::replaying::replay;
 use super::rounds::{Outcome, make_rounds};
-use super::showing::show;
-use super::status::Status;
+use ith_commands::{
+    NO_MEMORY, Plan, Status, audit, explain, find_races, prepare, prepare_rerun, replay, show, write_memo,
+};
 use ith_host::{Gate, Host};
 use ith_words::{Line, LineFault, RerunLine, RunLine, line_of};
 use rv_isa::Turns;
@@ -136,7 +130,7 @@ fn do_line<R: Threads + Wait + Sync, H: Host, G: Gate + Sync>(
 }
 
 /// Does what the arguments request. If the host's memory ran out, that is reported here, and nowhere else.
-#[tactic(auto, using(crate::proofs::Ending::short_of_memory))]
+#[tactic(auto, using(ith_commands::proofs::Ending::short_of_memory))]
 pub fn status_of<R: Threads + Wait + Sync, H: Host, G: Gate + Sync>(
     rt: &R,
     alloc: Global,

@@ -5,13 +5,12 @@ ghost use Rattle.std.specs.Arc.{arc_value};
 ghost use Rattle.machine_spec.specs.declared.TheConstants.{MOST_INPUT_BYTES};
 ghost use Rattle.round_spec.specs.Rounds.{history_of};
 ghost use Rattle.propagate.specs.Consistency.{IsOfMap};
-ghost use Rattle.rerun_spec.specs.Reports as reports;
-ghost use Rattle.ith_top.specs.Playing.{beginning_said, data_of_made, text_by, IsMadeOn};
+ghost use Rattle.ith_commands.specs.Playing.{beginning_said};
+ghost use Rattle.ith_top.specs.Making.{data_of_made, text_by, IsMadeOn};
 
 use super::crew::{Crew, MadeRound};
-use super::plan::Beginning;
+use ith_commands::{Beginning, is_exit};
 use ith_host::Gate;
-use machine_spec::End;
 use propagate::Round;
 use release_core::History;
 use rerun_spec::Asked;
@@ -97,13 +96,6 @@ fn left_by(alloc: Global, round: Round) -> Result<Arc<History>, AllocError>
     };
     let left = Arc::new(alloc, history)?;
     Ok(left)
-}
-
-/// Whether an end is an exit.
-pub fn is_exit(ending: Option<End>) -> bool
-    ensures { result ≡ reports.is_exit ending }
-{
-    matches!(ending, Some(End::Exit(_)))
 }
 
 /// Makes a round from this beginning, on this input, by the workers of the crew, and its text.

@@ -3,14 +3,12 @@
 ghost use Rattle.std.specs.Prelude.{IfOk, IfErr};
 ghost use Rattle.std.specs.Arc.{arc_value};
 ghost use Rattle.ith_host.specs.World.{NoneFell, AsksNothing};
-ghost use Rattle.ith_top.specs.Refusals.{IsPlayedInPart};
-ghost use Rattle.ith_top.specs.Playing.{plan_said, CanBePlayed, IsPlayed};
+ghost use Rattle.ith_commands.specs.Refusals.{IsPlayedInPart};
+ghost use Rattle.ith_commands.specs.Playing.{plan_said, CanBePlayed, IsPlayed};
 
 use super::crew::Crew;
-use super::outside::print_text;
-use super::plan::{Beginning, Plan, take_input};
 use super::report::{Form, ReportedRound, make_round};
-use super::status::Status;
+use ith_commands::{Beginning, Plan, Status, print_text, take_input};
 use ith_host::{Gate, Host};
 use release_core::History;
 use std::alloc::Global;

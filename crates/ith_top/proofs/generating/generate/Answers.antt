@@ -2,10 +2,10 @@
 use Rattle.std.proofs.Common.{refl}
 use Rattle.std.proofs.lemmas.Result.{err_from_is_err_and}
 use Rattle.ith_words.specs.Said.{generate_said}
-use Rattle.ith_top.specs.Refusals.{WhyUnprinted}
-use Rattle.ith_top.proofs.Worlds.{stays_same}
+use Rattle.ith_commands.specs.Refusals.{WhyUnprinted}
+use Rattle.ith_commands.proofs.Worlds.{stays_same}
 use Rattle.ith_top.proofs.Generated.{generate_spent, generate_ends, generate_made, generate_cut, generate_unprinted, unprinted_made}
-use Rattle.ith_top.proofs.Spent.{unprinted_unspent}
+use Rattle.ith_commands.proofs.Spent.{unprinted_unspent}
 use Rattle.ith_top.proofs.generating.generate.Goals as goal
 
 pub returns-in_err-text-clause-ends : goal.returns-in_err-text-clause-ends

@@ -2,8 +2,8 @@
 use Rattle.std.proofs.Common.{rules, ◌≡◌, ◌∷◌, ◌∙◌, ◌&&◌, ap, length, subst, arith}
 use Rattle.rerun_spec.specs.Inputs.{AreShort}
 use Rattle.rerun_spec.specs.Rounds.{Beginning}
-use Rattle.ith_top.specs.Contents.{Plan}
-use Rattle.ith_top.specs.Playing.{beginning_said, plan_said}
+use Rattle.ith_commands.specs.Contents.{Plan}
+use Rattle.ith_commands.specs.Playing.{beginning_said, plan_said}
 use Rattle.ith_top.specs.declared.report.Form.TheVariants as form
 use Rattle.ith_top.proofs.Going.{short_first, short_rest}
 use Rattle.ith_top.proofs.Making.{left_map}

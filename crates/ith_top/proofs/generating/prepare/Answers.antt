@@ -9,10 +9,10 @@ use Rattle.edit_list.specs.NoInputs.{WhyNoInputs, refusal_of}
 use Rattle.edit_list.specs.declared.refusal.InputsError.TheVariants as inputs
 use Rattle.guest_gen.specs.declared.making.Generated.{Generated}
 use Rattle.rerun_spec.specs.Rounds.{nothing_asked}
-use Rattle.ith_top.specs.Contents.{Plan}
-use Rattle.ith_top.specs.Playing.{plan_said}
-use Rattle.ith_top.proofs.Ending.{refused_image}
-use Rattle.ith_top.proofs.Planning.{run_playable, run_encoded}
+use Rattle.ith_commands.specs.Contents.{Plan}
+use Rattle.ith_commands.specs.Playing.{plan_said}
+use Rattle.ith_commands.proofs.Ending.{refused_image}
+use Rattle.ith_commands.proofs.Planning.{run_playable, run_encoded}
 use Rattle.ith_top.proofs.Generated.{generated-small, generated-unrefused}
 use Rattle.ith_top.proofs.generating.prepare.Goals as goal
 

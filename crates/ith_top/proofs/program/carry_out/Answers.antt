@@ -2,7 +2,7 @@
 use Rattle.std.proofs.Common.{◌∙◌, sym, subst, inl}
 use Rattle.std.proofs.lemmas.Result.{err_from_is_err_and}
 use Rattle.memo_spec.specs.Encoding.{IsEncodable}
-use Rattle.ith_top.specs.Playing.{plan_said}
+use Rattle.ith_commands.specs.Playing.{plan_said}
 use Rattle.ith_top.proofs.Promises.{last_encoded}
 use Rattle.ith_top.proofs.program.carry_out.Goals as goal
 

@@ -3,10 +3,10 @@ use Rattle.std.proofs.Common.{inl, inr}
 use Rattle.std.proofs.lemmas.Result.{err_from_is_err_and}
 use Rattle.ith_words.specs.Words.{Line, Runs}
 use Rattle.ith_words.specs.Said.{run_said}
-use Rattle.ith_top.specs.Ends.{new_memo_of}
-use Rattle.ith_top.specs.Playing.{plan_said}
+use Rattle.ith_commands.specs.Ends.{new_memo_of}
+use Rattle.ith_commands.specs.Playing.{plan_said}
 use Rattle.ith_top.proofs.Done.{rounds_end, rounds_spend}
-use Rattle.ith_top.proofs.Spent.{early_unspent}
+use Rattle.ith_commands.proofs.Spent.{early_unspent}
 use Rattle.ith_top.proofs.Counted.{counted_none, counted, run_asked}
 use Rattle.ith_top.proofs.program.run.Goals as goal
 

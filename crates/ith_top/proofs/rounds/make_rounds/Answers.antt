@@ -5,9 +5,9 @@ use Rattle.std.proofs.lemmas.Result.{err_from_is_err_and}
 use Rattle.std.specs.Arc.{arc_value}
 use Rattle.rerun_spec.specs.Inputs.{AreShort}
 use Rattle.rerun_spec.specs.Rounds.{Beginning}
-use Rattle.ith_top.specs.Playing.{beginning_said}
+use Rattle.ith_commands.specs.Playing.{beginning_said}
 use Rattle.ith_top.specs.declared.report.Form.TheVariants as form
-use Rattle.ith_top.proofs.Worlds.{none_fell_same}
+use Rattle.ith_commands.proofs.Worlds.{none_fell_same}
 use Rattle.ith_top.proofs.Making.{left_map}
 use Rattle.ith_top.proofs.Going.{going_start, going_next, going_played, going_cut, going_unprinted, none_left, short_first, short_rest}
 use Rattle.ith_top.proofs.rounds.make_rounds.Goals as goal

@@ -4,7 +4,7 @@ use Rattle.std.specs.Prelude.{option_map}
 use Rattle.std.specs.Arc.{arc_value}
 use Rattle.propagate.specs.Consistency.{IsOfMap}
 use Rattle.rerun_spec.specs.Inputs.{AreShort}
-use Rattle.ith_top.specs.Playing.{beginning_said, plan_said}
+use Rattle.ith_commands.specs.Playing.{beginning_said, plan_said}
 use Rattle.ith_top.proofs.Going.{IsGoing}
 use Rattle.ith_top.proofs.rounds.make_rounds.Given as goal
 

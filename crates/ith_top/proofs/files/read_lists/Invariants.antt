@@ -1,8 +1,0 @@
--- What holds at the loops of `read_lists`.
-use Rattle.ith_top.proofs.Reading.{IsReading}
-use Rattle.ith_top.proofs.files.read_lists.Given as goal
-
--- the lists of the first names were read
-abbrev pub invariant-loop-name : goal.invariant-loop-name
-invariant-loop-name g l =
-    IsReading (g.H.Host.world l.fn.host) (g.H.Host.world l.host) l.names l.name-index l.lists.items
