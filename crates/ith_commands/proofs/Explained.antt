@@ -7,7 +7,7 @@ use Rattle.round_spec.specs.Rounds.{RoundState}
 use Rattle.round_spec.specs.Alone.{lone_round}
 use Rattle.rerun_spec.specs.Inputs.{AreRerunInputs}
 use Rattle.rerun_spec.specs.Rounds.{nothing_asked, Beginning, limits_of, after_memo, with_input}
-use Rattle.rerun_workers.proofs.Made.{alone-setup, alone-past}
+use Rattle.propagate.proofs.Executing.{alone-setup, alone-past}
 use Rattle.round_report.specs.declared.why.reason.Reason.{Reason}
 use Rattle.round_report.specs.Reasons.{reasons_of, reasons_by, scratch_before, executed_places, IsBasedOnOldRun}
 use Rattle.propagate.specs.Executing.{executed_by}

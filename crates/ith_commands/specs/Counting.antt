@@ -3,8 +3,7 @@ use Rattle.std.specs.Prelude.{◌≡◌, ℕ, ◌+◌, ◌≤◌, List, All, Opt
 use Rattle.machine_spec.specs.Setup.{Setup, first}
 use Rattle.history_spec.specs.History.{History}
 use Rattle.round_spec.specs.Rounds.{RoundState}
-use Rattle.propagate.specs.Executing.{executed_by}
-use Rattle.rerun_workers.specs.Making.{IsCostOf}
+use Rattle.propagate.specs.Executing.{executed_by, IsCostOf}
 use Rattle.rerun_spec.specs.Rounds.{Found, Round, made}
 use Rattle.plain_machine.specs.Replaying.{turns_from}
 use Rattle.ith_host.specs.World.{World}

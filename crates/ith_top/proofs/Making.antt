@@ -19,7 +19,7 @@ use Rattle.rerun_spec.specs.Rounds.{Found, Round, Beginning, made, left_by, roun
 use Rattle.rerun_spec.specs.Reports.{extras_of, made_extras, data_as_made, is_exit}
 use Rattle.rerun_spec.proofs.Ending.{left-own}
 use Rattle.round_report.specs.Short.{short_text}
-use Rattle.rerun_workers.specs.Making.{IsCostOf}
+use Rattle.propagate.specs.Executing.{IsCostOf}
 use Rattle.ith_commands.specs.Counting.{IsCounted}
 use Rattle.ith_top.specs.Making.{text_by, round_text_by, IsMadeOn}
 use Rattle.ith_top.specs.declared.report.Form.{Form}

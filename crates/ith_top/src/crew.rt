@@ -5,7 +5,8 @@ ghost use Rattle.std.specs.Arc.{arc_value};
 ghost use Rattle.round_spec.specs.Schedules.{IsBySchedule};
 ghost use Rattle.round_spec.specs.Workers.{IsMadeBy};
 ghost use Rattle.round_spec.specs.Watching.{IsProgress};
-ghost use Rattle.rerun_workers.specs.Making.{IsRoundBy, IsCostOf};
+ghost use Rattle.propagate.specs.Executing.{IsCostOf};
+ghost use Rattle.rerun_workers.specs.Making.{IsRoundBy};
 ghost use Rattle.ith_commands.specs.Counting.{Spends};
 
 use ith_host::Gate;

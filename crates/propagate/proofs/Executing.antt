@@ -22,6 +22,8 @@ use Rattle.round_spec.specs.Marks.{record_for, fits_next}
 use Rattle.round_spec.specs.Rounds.{RoundState, opening, is_finished, is_in_flight, can_begin, can_take, can_reuse, taken, reused_by, committed, given_back, happens}
 use Rattle.round_spec.specs.Choice.{pick_of}
 use Rattle.round_spec.specs.Alone.{one_worker, after_pick, after_picks, lone_round}
+use Rattle.round_spec.proofs.Leaving.{round-setup, round-past}
+use Rattle.round_spec.proofs.PicksAsEvents.{picks-events}
 use Rattle.round_spec.specs.Keeping.{IsInOrder, IsCounted, IsHeld, IsFromScratch}
 use Rattle.round_spec.specs.Picking.{ArePicked}
 use Rattle.round_spec.specs.Unedited.{IsUnedited, OnlyReuses}
@@ -352,3 +354,17 @@ pub taken_step_commits :
 taken_step_commits w r frame kept same own going in_flight =
     let is = in_flight-commits w r.thread r kept in_flight going (own in_flight) in
     record { going = is.going; same_frame = same; taken = is.taken; fit = is.fit }
+
+-- the round of one worker has its setup and its history
+
+pub alone-setup :
+    (setup : Setup) (past : Option History) (w : RoundState) → w ≡ lone_round setup past → w.setup ≡ setup
+alone-setup setup past w is =
+    let events = picks-events setup past setup.limit in
+    ap (λ (x : RoundState). x.setup) (is ∙ events.1) ∙ round-setup setup past events.0
+
+pub alone-past :
+    (setup : Setup) (past : Option History) (w : RoundState) → w ≡ lone_round setup past → w.past ≡ past
+alone-past setup past w is =
+    let events = picks-events setup past setup.limit in
+    ap (λ (x : RoundState). x.past) (is ∙ events.1) ∙ round-past setup past events.0

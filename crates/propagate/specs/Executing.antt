@@ -1,10 +1,12 @@
--- What a round has executed and compared, and a round between picks.
-use Rattle.std.specs.Prelude.{◌≡◌, ◌≤◌, ◌+◌, ℕ, true}
+-- What a round has executed and compared, what it costs, and a round between picks.
+use Rattle.std.specs.Prelude.{◌≡◌, ◌≤◌, ◌+◌, ℕ, true, Option, Some}
+use Rattle.machine_spec.specs.Setup.{Setup}
 use Rattle.history_spec.specs.History.{History, is_coherent}
 use Rattle.round_spec.specs.Rounds.{RoundState}
 use Rattle.round_spec.specs.Alone.{after_picks}
 use Rattle.round_spec.specs.Instructions.{executed_instructions}
 use Rattle.round_spec.specs.Replaying.{IsReplaying}
+use Rattle.round_spec.specs.Unedited.{IsUnedited}
 
 -- How many instructions the executed entries of a round made.
 abbrev pub executed_by : RoundState → ℕ
@@ -27,3 +29,9 @@ pub record IsPartWay (left : ℕ) (after begun w : RoundState) (before now compa
   pub rises : before ≤ now
   pub spares : Spares compared_before begun compared w
   pub compares : compared_before ≤ compared
+
+-- What is known of how many turns so many workers executed for a round: with one worker, those of the executed steps;
+-- without an edit, none; else any number.
+pub record IsCostOf (workers : ℕ) (s : Setup) (before : Option History) (w : RoundState) (turns : ℕ) : Type 0 where
+  pub alone : workers ≡ 1 → turns ≡ executed_by w
+  pub idle : (h : History) → before ≡ Some h → IsUnedited h s → turns ≡ 0

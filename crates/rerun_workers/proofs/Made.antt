@@ -6,33 +6,17 @@ use Rattle.history_spec.specs.History.{History, IsSound}
 use Rattle.round_spec.specs.Rounds.{RoundState, opening}
 use Rattle.round_spec.specs.Schedules.{IsBySchedule}
 use Rattle.round_spec.specs.Alone.{lone_round}
-use Rattle.round_spec.proofs.Leaving.{round-setup, round-past}
 use Rattle.round_spec.specs.Workers.{IsMadeBy}
-use Rattle.round_spec.proofs.PicksAsEvents.{picks-events}
 use Rattle.round_spec.proofs.Workers.{lone-made, ended-made}
 use Rattle.round_spec.specs.Picking.{ArePicked, IsPickedSoFar}
 use Rattle.round_spec.specs.Unedited.{IsUnedited, OnlyReuses}
 use Rattle.round_spec.specs.Watching.{IsProgress}
 use Rattle.round_spec.proofs.Replay.{unedited-repeats, replays-end}
 use Rattle.round_spec.proofs.ByWorkers.{reexecutes-picked}
-use Rattle.propagate.specs.Executing.{executed_by}
-use Rattle.propagate.proofs.Executing.{alone-picked, alone-least, alone-ends, alone-reuses}
+use Rattle.propagate.specs.Executing.{executed_by, IsCostOf}
+use Rattle.propagate.proofs.Executing.{alone-setup, alone-past, alone-picked, alone-least, alone-ends, alone-reuses}
 use Rattle.rerun_workers.specs.Following.{FollowsPicks}
-use Rattle.rerun_workers.specs.Making.{IsRoundBy, IsClosed, IsCostOf}
-
--- the round of one worker is of its setup, and goes by its history
-
-pub alone-setup :
-    (setup : Setup) (past : Option History) (w : RoundState) → w ≡ lone_round setup past → w.setup ≡ setup
-alone-setup setup past w is =
-    let events = picks-events setup past setup.limit in
-    ap (λ (x : RoundState). x.setup) (is ∙ events.1) ∙ round-setup setup past events.0
-
-pub alone-past :
-    (setup : Setup) (past : Option History) (w : RoundState) → w ≡ lone_round setup past → w.past ≡ past
-alone-past setup past w is =
-    let events = picks-events setup past setup.limit in
-    ap (λ (x : RoundState). x.past) (is ∙ events.1) ∙ round-past setup past events.0
+use Rattle.rerun_workers.specs.Making.{IsRoundBy, IsClosed}
 
 pub alone-made :
     (workers : ℕ) (setup : Setup) (past : Option History) (w : RoundState) (worker_steps : List ℕ)

@@ -10,7 +10,6 @@ use Rattle.round_spec.specs.Unedited.{IsUnedited, OnlyReuses}
 use Rattle.round_spec.specs.Workers.{IsMadeBy}
 use Rattle.round_spec.specs.Replaying.{Repeats}
 use Rattle.round_spec.specs.Working.{ReexecutesLeast}
-use Rattle.propagate.specs.Executing.{executed_by}
 use Rattle.rerun_workers.specs.Following.{FollowsPicks}
 
 -- A round of a setup, based on a history if there is one, that so many workers made, and how many of its steps each of
@@ -44,9 +43,3 @@ pub record IsClosed (s : Setup) (before : Option History) (w : RoundState) (work
   pub follows : FollowsPicks s before w
   pub idle : (h : History) → before ≡ Some h → IsUnedited h s → turns ≡ 0
   pub spares : ComparesNone s before compared
-
--- What is known of how many turns so many workers executed for a round: with one worker, those of the executed steps;
--- without an edit, none; else any number.
-pub record IsCostOf (workers : ℕ) (s : Setup) (before : Option History) (w : RoundState) (turns : ℕ) : Type 0 where
-  pub alone : workers ≡ 1 → turns ≡ executed_by w
-  pub idle : (h : History) → before ≡ Some h → IsUnedited h s → turns ≡ 0

@@ -6,7 +6,8 @@ ghost use Rattle.history_spec.specs.History.{History as OldHistory};
 ghost use Rattle.round_spec.specs.Rounds.{opening};
 ghost use Rattle.round_spec.specs.Unedited.{IsUnedited};
 ghost use Rattle.round_spec.specs.Watching.{IsProgress};
-ghost use Rattle.rerun_workers.specs.Making.{IsRoundBy, IsClosed, IsCostOf, ComparesNone};
+ghost use Rattle.propagate.specs.Executing.{IsCostOf};
+ghost use Rattle.rerun_workers.specs.Making.{IsRoundBy, IsClosed, ComparesNone};
 
 use super::board::{Board, ClosedRound};
 use super::effort::Effort;

@@ -1,7 +1,7 @@
 -- What is left to prove of `Crew::make`.
 use Rattle.std.proofs.Common.{rules, option_map}
 use Rattle.std.specs.Arc.{arc_value}
-use Rattle.rerun_workers.specs.Making.{IsCostOf}
+use Rattle.propagate.specs.Executing.{IsCostOf}
 use Rattle.ith_top.proofs.crew.Crew.make.Goals as goal
 use Rattle.ith_top.proofs.crew.Crew.make.Goals.{then-watched, else-watched}
 
