@@ -17,10 +17,10 @@ ghost use Rattle.ith_commands.specs.Playing.{plan_said, CanBePlayed, CanBeEncode
 
 use super::crew::Crew;
 use super::report::{Form, make_round};
-use ith_commands::{Plan, Status, from_scratch, print_text, take_input};
 use edit_list::{InputsError, inputs_of};
 use elf_load::LoadError;
 use guest_gen::{Generated, make};
+use ith_commands::{Plan, Status, from_scratch, print_text, take_input};
 use ith_host::{Gate, Host};
 use ith_text::decimal;
 use ith_words::{GenerateLine, default_limits};

@@ -15,7 +15,8 @@ use super::crew::Crew;
 use super::generating::generate;
 use super::rounds::{Outcome, make_rounds};
 use ith_commands::{
-    NO_MEMORY, Plan, Status, audit, explain, find_races, prepare, prepare_rerun, replay, show, write_memo,
+    NO_MEMORY, Plan, Status, audit, explain, find_races, prepare, prepare_rerun, replay, show,
+    write_memo,
 };
 use ith_host::{Gate, Host};
 use ith_words::{Line, LineFault, RerunLine, RunLine, line_of};
