@@ -7,7 +7,7 @@ use Rattle.history_spec.specs.Before.{is_in}
 use Rattle.history_spec.proofs.Lists.{or-left, or-right, is_or_not}
 use Rattle.depend_graph.specs.Clocks.{IsLargerOf}
 
--- A clock was joined to those of some keys, of which some have a clock; the others are as they were.
+-- A clock was joined to those of some keys that have one; the clocks of the other keys are as they were.
 pub record IsAdded (has : ℕ → Type 0) (before after : ℕ → List ℕ) (clock : List ℕ) (keys : List ℕ) : Type 0 where
   pub at : (k : ℕ) → has k → is_in k keys ≡ true → IsLargerOf (after k) (before k) clock
   pub others : (k : ℕ) → is_in k keys ≡ false → after k ≡ before k

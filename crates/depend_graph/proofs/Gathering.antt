@@ -140,7 +140,7 @@ before_by fs n i f =
     || (meets (fact_at fs i).written f.written
     || (meets (fact_at fs i).written f.opened || (meets (fact_at fs i).opened f.written || f.last)))))
 
--- the clocks that a step gathers
+-- the clocks that are joined for a step
 pub record IsGathered (past : Past) (f : Fact) (clock : List ℕ) : Type 0 where
   pub blank : List ℕ
   pub own : List ℕ
@@ -232,7 +232,7 @@ touched fs n past f clock few of g =
     (largest_at (page_clock past.openers) f.written) opened
     (largest-counts fs (opens fs) n (page_clock past.openers) of.openers f.written) g.is_over
 
--- what a step gathers is the join of those that must come directly before it
+-- the clock that is joined for a step is the join of those of the steps that must come directly before it
 pub gathered-join :
     (fs : List Fact) (n : ℕ) (past : Past) (f : Fact) (clock : List ℕ)
     → f ≡ fact_at fs n

@@ -1,4 +1,4 @@
--- How clocks are joined: the clock of a step is the join of those of the steps directly before it, and one step more.
+-- How clocks are joined: the clock of a step is the join of those of the steps directly before it, and one more step.
 use Rattle.std.proofs.Common.{◌≡◌, ◌≢◌, ◌<◌, ◌≤◌, ◌+◌, ℕ, zero, suc, max, Bool, true, false, ◌&&◌, ◌||◌, not, ◌⊎◌, eqb, ltb, cond, List, length, slice_index, refl, ap, sym, ◌∙◌, subst, inl, inr, arith}
 use Rattle.std.proofs.Math.ListN.{set}
 use Rattle.std.proofs.lemmas.List.{get_or-set_other, get_or-set_same}
@@ -12,7 +12,7 @@ use Rattle.history_spec.proofs.Lists.{and-left, and-right, or-in_left, or-in_rig
 use Rattle.history_spec.proofs.Clocks.{IsSome, some-below, below-some, lt-bit, bit-lt, link, bounded, count-le, count-step, clock-tells}
 use Rattle.depend_graph.specs.Joins.{is_up_to_some, count_up_to, IsJoinOf, IsClockOf}
 
--- tests that hold of the same numbers hold of as many
+-- two tests that hold of the same numbers hold of equally many
 
 count-same :
     (p q : ℕ → Bool) (n : ℕ)
@@ -21,7 +21,7 @@ count-same :
     → count_below p n ≡ count_below q n
 count-same p q n to from = let le = count-le p q n to in let ge = count-le q p n from in omega arith
 
--- of two sets of numbers of which one has the other, their union has as many as the larger
+-- if one of two sets of numbers contains the other, their union has as many numbers as the larger
 union-count :
     (a b c : ℕ → Bool) (n : ℕ)
     → ((k : ℕ) → k < n → a k ≡ true → c k ≡ true)
@@ -102,7 +102,7 @@ up_to-later fs i n below =
     let after : ltb n i ≡ false = grind (arith, nat_tests) in
     rw (apart, after) refl
 
--- whom some are up to, others are too that come to as many
+-- if a step is up to some that pass a test, it is up to some that pass a wider one
 up_to_some-more :
     (fs : List Fact) (p q : ℕ → Bool) (n k : ℕ)
     → ((i : ℕ) → i < n → p i ≡ true → q i ≡ true)
@@ -127,7 +127,7 @@ up_to_some-either fs p q n k up =
     (below-some (λ i. q i && is_up_to fs i k) n some.at some.below (rw (second, at_most) refl)))
     pass
 
--- with a step the earlier ones of its thread
+-- if a step is up to some that pass a test, so is each earlier one of its thread
 up_to_some-earlier :
     (fs : List Fact) (p : ℕ → Bool) (n h k : ℕ)
     → h < k → (fact_at fs h).thread ≡ (fact_at fs k).thread
@@ -210,7 +210,7 @@ count_up_to-same fs p q n t to from =
         (and-right (eqb (fact_at fs k).thread t) (is_up_to_some fs a n k) is) in
         rw (own, up) refl
 
--- up to a step directly before one, or that one itself
+-- up to a step directly before one, or the step itself
 
 before-up_to :
     (fs : List Fact) (n k : ℕ) → k < n → is_up_to fs n k ≡ true → is_up_to_some fs (λ i. before_at fs i n) n k ≡ true
@@ -265,7 +265,7 @@ up_to-before fs n k below up =
           rw (bit, chain) refl
     ])
 
--- the clock of a step: of those directly before it, and one step more of its thread
+-- the clock of a step: the join of those of the steps directly before it, and one more step of its thread
 clock-next :
     (fs : List Fact) (n t : ℕ)
     → clock_at fs n t ≡ cond (eqb (fact_at fs n).thread t) 1 0 + count_up_to fs (λ i. before_at fs i n) n t
@@ -296,7 +296,7 @@ clock-next fs n t =
     here true is own others = rw (is, own) (omega arith)
     here false is own others = rw is (omega arith)
 
--- one step more
+-- one more step
 
 stays :
     (fs : List Fact) (p : ℕ → Bool) (n t : ℕ) → p n ≡ false → count_up_to fs p (suc n) t ≡ count_up_to fs p n t
@@ -411,7 +411,7 @@ join-none fs p n clock none zeros = record { counts = λ t few. zeros t ∙ sym 
     empty zero t none = unfold count_up_to in refl
     empty (suc n) t none = stays fs p n t (none n (omega arith)) ∙ empty n t (λ i below. none i (omega arith))
 
--- a clock with one step more of its thread than the join of those directly before it is that of the step
+-- the join of the clocks directly before a step, with one more step of its thread, is the step's clock
 pub clock-of_join :
     (fs : List Fact) (n : ℕ) (before clock : List ℕ)
     → ((t : ℕ) → t < THREADS → slice_index clock t ≡ cond (eqb (fact_at fs n).thread t) 1 0 + slice_index before t)
@@ -447,7 +447,7 @@ join-few fs p n clock t few join =
     let most = count_up_to-few fs p n t in
     omega arith
 
--- one step more of a thread
+-- one more step of a thread
 pub ticked-counts :
     (before clock : List ℕ) (t : ℕ)
     → length before ≡ THREADS → t < THREADS → clock ≡ set before t (slice_index before t + 1)

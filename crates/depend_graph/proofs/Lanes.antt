@@ -1,4 +1,4 @@
--- What two vectors' lanes say of the two lists of counts.
+-- How the lanes of two vectors relate to the two lists of counts.
 use Rattle.std.proofs.Common.{◌≡◌, ℕ, zero, suc, ◌+◌, ◌*◌, ◌^◌, ◌≤◌, max, Bool, true, false, cond, ltb, leb, List, [], ◌∷◌, length, get_or, sym, ◌∙◌, refl, arith}
 use Rattle.std.specs.Simd.Lanes.{zip2, sel_l, mask_l}
 use Rattle.std.proofs.Math.Nat.{pow-suc}
@@ -17,7 +17,7 @@ larger_lanes (x ∷ xs) [] same t = absurd (omega (arith, same))
 larger_lanes (x ∷ xs) (y ∷ ys) same zero = larger_of x y
 larger_lanes (x ∷ xs) (y ∷ ys) same (suc t) = larger_lanes xs ys (omega (arith, same)) t
 
--- A mask is full where its first bit is set and the mask of the others is full.
+-- A mask is full if its first bit is set and the mask of the others is full.
 full_parts : (b : Bool) (m p : ℕ) → cond b 1 0 + 2 * m + 1 ≡ p * 2 → (b ≡ true) × (m + 1 ≡ p)
 full_parts true m p full = (refl, omega (arith, full))
 full_parts false m p full = absurd (omega (arith, full))
@@ -26,7 +26,7 @@ full_of : (b : Bool) (m p : ℕ) → b ≡ true → m + 1 ≡ p → cond b 1 0 +
 full_of true m p set full = omega (arith, full)
 full_of false m p set full = absurd (grind (arith, set))
 
--- Where the mask is full, no lane is above the other's.
+-- If the mask is full, no lane is above the other's.
 pub full_says :
     (xs ys : List ℕ) → length xs ≡ length ys → mask_l (zip2 leb xs ys) + 1 ≡ 2 ^ length xs
     → (t : ℕ) → get_or xs t 0 ≤ get_or ys t 0
@@ -40,7 +40,7 @@ full_says (x ∷ xs) (y ∷ ys) same full (suc t) =
     let parts = full_parts (leb x y) (mask_l (zip2 leb xs ys)) (2 ^ length xs) (full ∙ pow-suc 2 (length xs)) in
     full_says xs ys (omega (arith, same)) parts.1 t
 
--- Where no lane is above the other's, the mask is full.
+-- If no lane is above the other's, the mask is full.
 pub full_where :
     (xs ys : List ℕ) → length xs ≡ length ys → ((t : ℕ) → get_or xs t 0 ≤ get_or ys t 0)
     → mask_l (zip2 leb xs ys) + 1 ≡ 2 ^ length xs

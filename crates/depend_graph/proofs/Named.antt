@@ -72,7 +72,7 @@ same-own (Barrier k) = eq-eqb k k refl
 same-own (Condition k) = eq-eqb k k refl
 same-own (RwLock k) = eq-eqb k k refl
 
--- where no clock has the name
+-- if no clock has the name
 without :
     (cs : List ObjectClock) (o : Object) (d : ObjectClock)
     → position (is_named o) cs ≡ None → (k : ℕ) → k < length cs → same_object o (get_or cs k d).object ≡ false

@@ -1,4 +1,4 @@
--- After one step more the clocks are joined by what the steps did, as before.
+-- After one more step, the clocks are joined by what the steps did, as before.
 use Rattle.std.proofs.Common.{◌≡◌, ◌≢◌, ◌<◌, ℕ, zero, suc, Bool, true, false, ◌&&◌, ◌||◌, not, eqb, leb, List, slice_index, refl, ap, sym, ◌∙◌, subst, inl, inr, arith}
 use Rattle.std.proofs.lemmas.Bool.{cases_eq, eq-eqb}
 use Rattle.std.proofs.lemmas.Bool.Decides.{nat_tests}
@@ -38,7 +38,7 @@ pub record IsPassed (past after : Past) (f : Fact) (clock : List ℕ) : Type 0 w
       (p : ℕ) → is_in p f.opened ≡ true → IsLargerOf (page_clock after.openers p) (page_clock past.openers p) clock
   pub opener_others : (p : ℕ) → is_in p f.opened ≡ false → page_clock after.openers p ≡ page_clock past.openers p
 
--- a step that passes the test has its clock joined, another leaves all as it is
+-- the clock of a step that passes the test is joined, and another step changes nothing
 either :
     (fs : List Fact) (p : ℕ → Bool) (n : ℕ) (old new clock : List ℕ)
     → (p n ≡ true → IsLargerOf new old clock) → (p n ≡ false → new ≡ old)
@@ -49,7 +49,7 @@ either fs p n old new clock at others own join =
       | inr isnt ↦ subst (λ (c : List ℕ). IsJoinOf fs p (suc n) c) (sym (others isnt)) (join-stay fs p n old isnt join)
     ]
 
--- who gave a view, one step later
+-- which steps gave a view, one step later
 
 pub all-true : (test : ℕ → Bool) (n : ℕ) → ((k : ℕ) → k < n → test k ≡ true) → all_below test n ≡ true
 all-true test zero each = refl
@@ -120,7 +120,7 @@ mid-given fs n past f cleared t here few zeros others of =
         let apart : (fact_at fs n).thread ≢ t = λ same. other (is ∙ same) in
         grind (arith, nat_tests)
 
--- a step more is past
+-- one more step is past
 passed-own :
     (fs : List Fact) (n : ℕ) (past after : Past) (clock : List ℕ)
     → IsPastOf fs n past → IsClockOf fs n clock → IsPassed past after (fact_at fs n) clock → IsPastOf fs (suc n) after

@@ -1,4 +1,4 @@
--- One step more of what changed pages reach, and whether the next step is reached.
+-- One more step of those that changed pages reach, and whether the next step is reached.
 use Rattle.std.proofs.Common.{◌≡◌, ◌≢◌, ◌<◌, ◌≤◌, ℕ, zero, suc, Bool, true, false, ◌&&◌, ◌||◌, not, eqb, leb, ltb, cond, List, [], ◌∷◌, slice_index, slice_index_or, refl, ap, ap₂, sym, ◌∙◌, inl, inr, arith}
 use Rattle.std.specs.List.{list_any, list_all}
 use Rattle.std.proofs.lemmas.Bool.{cases_eq, eq-eqb, eqb-true}
@@ -22,7 +22,7 @@ pub record IsGiven (before after : List ℕ) (threads : List ℕ) (end : ℕ) : 
   pub given : (t : ℕ) → t < THREADS → is_in t threads ≡ true → slice_index after t ≡ end
   pub others : (t : ℕ) → is_in t threads ≡ false → slice_index after t ≡ slice_index before t
 
--- a list of nothing but what stands for what isn't there
+-- an element of a list of zeros is 0
 pub all-zero : (ns : List ℕ) (i : ℕ) → list_all (λ n. eqb n 0) ns ≡ true → slice_index ns i ≡ 0
 all-zero [] i all = refl
 all-zero (n ∷ ns) zero all = eqb-true n 0 (and-left (eqb n 0) (list_all (λ m. eqb m 0) ns) all)
@@ -98,13 +98,13 @@ all-early fs t i (suc n) low =
     rw early (all-early fs t i n (omega arith))
 
 module _ (fs : List Fact) (n t : ℕ) where
-  -- the step itself has none after it
+  -- no step comes after the step itself
   own-last : all_below (λ k. leb k n || not (eqb (fact_at fs k).thread t)) (suc n) ≡ true
   own-last =
       let early : leb n n ≡ true = grind (arith, nat_tests) in
       rw early (all-early fs t n n (omega arith))
 
-  -- a step before it is no more the last where it is of the thread, and else is as before
+  -- an earlier step isn't the last one any more if it is of the same thread, and else is as before
   past-own : (i : ℕ) → i < n → (fact_at fs n).thread ≡ t
       → all_below (λ k. leb k i || not (eqb (fact_at fs k).thread t)) (suc n) ≡ false
   past-own i less own =
@@ -181,7 +181,7 @@ ends-more fs n t =
     kept true = refl
     kept false = refl
 
--- one step more is past
+-- one more step is past
 pub past-more :
     (fs : List Fact) (reads : List (List ℕ)) (pages : List ℕ) (n : ℕ) (before after : Reached)
     → IsReachedPast fs reads pages n before
@@ -213,7 +213,7 @@ past-more fs reads pages n before after past more =
     turned false false true = refl
     turned false false false = refl
 
--- the next step is reached where it is led to, or reads a page that shows a change
+-- the next step is reached if a reached step leads to it, or if its view shows a page with a change
 module _ (fs : List Fact) (reads : List (List ℕ)) (pages : List ℕ) (n : ℕ) where
   abbrev reached : ℕ → Bool
   reached = is_reached fs reads pages
@@ -315,7 +315,7 @@ any-listed : (p q : ℕ → Bool) (ks : List ℕ) → ((k : ℕ) → p k ≡ q k
 any-listed p q [] same = refl
 any-listed p q (k ∷ ks) same = ap₂ (λ (a b : Bool). a || b) (same k) (any-listed p q ks same)
 
--- what is kept of the first steps tells whether the next one is reached
+-- what is kept of the first steps determines whether the next one is reached
 pub next-round_text_by :
     (fs : List Fact) (reads : List (List ℕ)) (pages : List ℕ) (n : ℕ) (past : Reached) (f : Fact) (slots : List ℕ)
     → IsReachedPast fs reads pages n past → f ≡ fact_at fs n → slots ≡ read_at reads n → f.thread < THREADS

@@ -10,7 +10,7 @@ use Rattle.edit_list.specs.declared.line.LineFault.{LineFault}
 use Rattle.edit_list.specs.declared.line.LineFault.TheVariants as fault
 use Rattle.edit_list.specs.Refusals.{WhyNoBytes}
 
--- what an answer shows that came by two steps
+-- if two computations in sequence succeed, so does the first
 bind_ok :
     {A B : Type 0} (r : Result A FromHexError) (f : A → Result B FromHexError) (y : B) → (r >>= f) ≡ Ok y
     → (x : A) × (r ≡ Ok x) × (f x ≡ Ok y)
@@ -26,7 +26,7 @@ digit_read c i None v h = cc h
 small_value : (c v : ℕ) → hex_digit_value c ≡ Some v → v < 16
 small_value c v h = grind (arith)
 
--- two digits that encode a byte are read as it
+-- two digits that encode a byte are decoded to it
 pair_from :
     (high low byte i : ℕ) → hex_digit_value high ≡ Some (byte / 16) → hex_digit_value low ≡ Some (byte % 16)
     → pair_value high low i ≡ Ok byte
@@ -36,7 +36,7 @@ pair_from high low byte i h l =
     let whole : byte / 16 * 16 + byte % 16 ≡ byte = omega arith in
     rw (a, b) (ap (λ (v : ℕ). Ok v) whole)
 
--- two digits that are read as a byte encode it
+-- two digits that are decoded to a byte encode it
 pair_to :
     (high low byte i : ℕ) → pair_value high low i ≡ Ok byte
     → (hex_digit_value high ≡ Some (byte / 16)) × (hex_digit_value low ≡ Some (byte % 16))
@@ -96,7 +96,7 @@ encoded_is_decoded digits bytes s =
     let count = length_encoded digits bytes s in
     decode_of-even digits (omega arith) ∙ read_encoded 0 digits bytes s
 
--- why digits gave no bytes, where the decoder refuses them
+-- why digits gave no bytes if the decoder refuses them
 pub refused_by_decoder :
     (digits : List ℕ) (error : FromHexError) (answer : LineFault)
     → (answer ≡ fault.Bad → error ≢ OutOfMemory)

@@ -1,4 +1,4 @@
--- Edits done one after the other to a buffer that shows what later edits keep.
+-- Edits applied one after the other to a buffer that shows what later edits keep.
 use Rattle.std.proofs.Common.{◌≡◌, ◌<◌, ℕ, min, false, List, [], ◌∷◌, length, drop, map, slice_index_or, Result, Ok, refl, ap, sym, subst, ◌∙◌, arith}
 use Rattle.std.proofs.lemmas.List.{drop-map, length-map}
 use Rattle.edit_spec.specs.Edit.{LineEdit}
@@ -10,13 +10,13 @@ use Rattle.edit_list.specs.Showing.{Shows}
 use Rattle.edit_list.proofs.Lengths.{first-least, get_or-leasts, length-edited_once}
 use Rattle.edit_list.proofs.Showing.{shown-whole}
 
--- a buffer shows an input of this length, from which the edits come to the whole
+-- a buffer shows an input of this length that the other edits turn into the whole
 abbrev pub IsAt : List LineEdit → List ℕ → ℕ → ℕ → Result (List ℕ) ℕ → Type 0
 IsAt edits buffer current last whole =
     (now : List ℕ) × (length now ≡ current) × (edited edits now ≡ whole)
     × Shows buffer now (min current (least edits last))
 
--- what an edit does to a buffer, with the least length that it and those after it give
+-- what an edit does to a buffer, with the least length that it and the later ones leave
 abbrev pub DoesEdit : LineEdit → List ℕ → List ℕ → ℕ → ℕ → ℕ → Type 0
 DoesEdit e before after current result here =
     (input : List ℕ) (rest : ℕ) → length input ≡ current → is_out_of_range e.edit current ≡ false → here
@@ -46,7 +46,7 @@ all-edits buffer current last whole comes size is =
     shown-whole buffer is.0 (min current last) (omega (arith, is.1)) (omega (arith, is.1)) is.3 in
     sym is.2 ∙ ap (λ (x : List ℕ). Ok x) same
 
--- the least lengths as the code has them
+-- the least lengths, as the code has them
 pub kept-is :
     (lengths : List ℕ) (edits : List LineEdit) (most kept : ℕ) → lengths ≡ leasts edits most
     → kept ≡ slice_index_or lengths 0 most

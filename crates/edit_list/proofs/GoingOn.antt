@@ -1,4 +1,4 @@
--- One list more: it makes the next input, or it is the first that is refused.
+-- One more list: it makes the next input, or it is the first that is refused.
 use Rattle.std.proofs.Common.{◌≡◌, ◌<◌, ℕ, ◌+◌, List, [], ◌∷◌, ◌++◌, length, take, drop, get_or, slice_get, Some, Ok, Vec, ap, sym, subst, ◌∙◌, arith}
 use Rattle.std.specs.Global.{Global}
 use Rattle.std.proofs.lemmas.Grind.{common_steps}
@@ -15,7 +15,7 @@ use Rattle.edit_list.specs.Lists.{bytes_of_each}
 use Rattle.edit_list.specs.NoInputs.{refusal_of, WhyNotMade, WhyNoInputs}
 use Rattle.edit_list.proofs.Leading.{Leads, leads-last, leads-more, inputs_from-more}
 
--- the lists so far make the inputs so far, and the last of these is at hand
+-- the lists so far make the inputs so far, and the last of these is known
 pub record IsGoing (first : List ℕ) (lists : List (Vec ℕ Global)) (place : ℕ) (later : List (List LineEdit))
     (last : List ℕ) : Type 0 where
   pub made : AreInputs first (bytes_of_each (take place lists)) (inputs_from later first)

@@ -5,7 +5,7 @@ use Rattle.edit_spec.specs.Edit.{LineEdit}
 use Rattle.edit_spec.specs.Editing.{edited}
 use Rattle.edit_list.specs.Pending.{inputs_from, CanBeDone}
 
--- lists of edits make the last input of the first, one after the other
+-- lists of edits, applied one after the other, make the last input from the first
 abbrev pub Leads : List (List LineEdit) → List ℕ → List ℕ → Type 0
 Leads [] input last = input ≡ last
 Leads (edits ∷ lists) input last = (next : List ℕ) × (edited edits input ≡ Ok next) × Leads lists next last
@@ -18,12 +18,12 @@ inputs-count [] input = refl
 inputs-count (edits ∷ lists) input =
     ap (λ (n : ℕ). suc n) (inputs-count lists (result_unwrap_or (edited edits input) input))
 
--- they can be done
+-- they can be applied
 pub leads-done : (lists : List (List LineEdit)) (input last : List ℕ) → Leads lists input last → CanBeDone lists input
 leads-done [] input last leads = tt
 leads-done (edits ∷ lists) input last leads = (leads.0, leads.1, leads-done lists leads.0 last leads.2)
 
--- what a list that can be done makes
+-- what a list that can be applied makes
 made-is :
     (edits : List LineEdit) (input next : List ℕ) → edited edits input ≡ Ok next
     → result_unwrap_or (edited edits input) input ≡ next
@@ -38,7 +38,7 @@ leads-last (edits ∷ lists) input last leads =
     ap (λ (i : List ℕ). slice_get (inputs_from lists i) (length lists)) (made-is edits input leads.0 leads.1)
     ∙ leads-last lists leads.0 last leads.2
 
--- one list more
+-- one more list
 pub leads-more :
     (lists : List (List LineEdit)) (edits : List LineEdit) (input last next : List ℕ)
     → Leads lists input last → edited edits last ≡ Ok next → Leads (lists ++ edits ∷ []) input next

@@ -16,14 +16,14 @@ pub length-edited_once :
 length-edited_once (Set offset bytes) input within = grind (arith, common_steps, nat_tests, within)
 length-edited_once (Size size) input within = grind (arith, common_steps, nat_tests, within)
 
--- which way a choice of lines went
+-- which branch a choice between lines took
 chosen :
     {A : Type 0} (b : Bool) (x y z : A) → (if b then x else y) ≡ z
     → ((b ≡ true) × (x ≡ z)) ⊎ ((b ≡ false) × (y ≡ z))
 chosen true x y z e = inl (refl, e)
 chosen false x y z e = inr (refl, e)
 
--- lengths alone say which line passes its bound
+-- lengths alone determine which line passes its bound
 pub out_of_range_is :
     (edits : List LineEdit) (input : List ℕ) (number : ℕ) → line_out_of_range edits (length input) ≡ Some number
     → edited edits input ≡ Err number
@@ -44,7 +44,7 @@ pub not_applied :
 not_applied edits input (OutOfRange number) why = out_of_range_is edits input number why
 not_applied edits input NoMemory why = absurd why
 
--- no least length is more than the most
+-- no least length is greater than the most
 pub least-most : (edits : List LineEdit) (most : ℕ) → least edits most ≤ most
 least-most [] most = omega arith
 least-most (e ∷ edits) most = lesser-under e.edit (least edits most) most (least-most edits most)

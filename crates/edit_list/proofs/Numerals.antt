@@ -1,4 +1,4 @@
--- A text is a numeral exactly where it is the decimal encoding of a small number.
+-- A text is a numeral exactly if it is the decimal encoding of a small number.
 use Rattle.std.proofs.Common.{Bool, ◌&&◌, ◌||◌, ◌==◌, not, nat_lt, nat_le, slice_index, inl, inr, ◌≡◌, ℕ, ◌+◌, ◌-◌, ◌*◌, ◌<◌, ◌≤◌, true, List, length, get_or, take, refl, sym, ap, arith, rules}
 use Rattle.std.specs.Prelude.{decimal}
 use Rattle.std.specs.List.{list_all}
@@ -31,7 +31,7 @@ pub small_so_far :
 small_so_far ds i all few =
     omega (arith, digits_value-take-le 10 ds i (omega arith), digits_value_short decimal_texts ds 7 all few)
 
--- one digit more
+-- one more digit
 pub one_more :
     (ds : List ℕ) (i : ℕ) → list_all is_ascii_digit ds ≡ true → i < length ds
     → digits_value 10 (take (i + 1) ds) ≡ digits_value 10 (take i ds) * 10 + (get_or ds i 0 - 48)
@@ -65,7 +65,7 @@ numeral_is ds is =
     single : (first count : ℕ) → (not (first == 48) || count == 1) ≡ true → first ≡ 48 → count ≡ 1
     single first count h is = grind (arith, nat_tests, h)
 
--- a number's encoding has no zero in front, but for the number 0
+-- a number's encoding has no leading zero, except that of 0
 single_zero : (n : ℕ) → n < number_limit → (not (slice_index (decimal n) 0 == 48) || length (decimal n) == 1) ≡ true
 single_zero n small =
     elim (cases_lt 0 n) [

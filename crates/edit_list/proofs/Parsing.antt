@@ -10,17 +10,17 @@ use Rattle.edit_spec.specs.Edit.{Edit, LineEdit}
 use Rattle.edit_spec.specs.Grammar.{lines, IsEdit, Encodes, EncodeAll, Say, Says, newline}
 use Rattle.edit_list.specs.Adding.{lines_from, AddsLine}
 
--- an answer about lines, with the edits of the lines before them
+-- an answer about lines, after the edits of the lines before them
 abbrev pub after_front : List LineEdit → Result (List LineEdit) ℕ → Result (List LineEdit) ℕ
 after_front front (Ok edits) = Ok (front ++ edits)
 after_front front (Err number) = Err number
 
--- what the rest of a list says is what the list says, after the edits so far
+-- the edits so far, with those that the rest encodes, are those of the whole list
 abbrev pub Leads : List ℕ → ℕ → List (List ℕ) → List LineEdit → Type 0
 Leads bytes number pieces front =
     (answer : Result (List LineEdit) ℕ) → Say (lines_from number pieces) answer → Says bytes (after_front front answer)
 
--- the edits of one line, and what the lines after it say
+-- the edits of one line, and what the lines after it encode
 joined : (number : ℕ) (text : List ℕ) (more : List (List ℕ)) (added : List LineEdit) (answer : Result (List LineEdit) ℕ)
     → EncodeAll (lines_from number (text ∷ [])) added → Say (lines_from (number + 1) more) answer
     → Say (lines_from number (text ∷ more)) (after_front added answer)
@@ -32,14 +32,14 @@ joined number (b ∷ text) more (e ∷ []) (Ok edits) s said = (s.0, said)
 joined number (b ∷ text) more (e ∷ []) (Err bad) s said = inr ((e.edit, s.0.1), said)
 joined number (b ∷ text) more (e ∷ f ∷ added) answer s said = absurd s.1
 
--- edits in front of edits in front
+-- putting edits in front of edits in front of an answer is putting both in front
 in_front :
     (before added : List LineEdit) (answer : Result (List LineEdit) ℕ)
     → after_front before (after_front added answer) ≡ after_front (before ++ added) answer
 in_front before added (Ok edits) = ap (λ (x : List LineEdit). Ok x) (sym (append_assoc before added edits))
 in_front before added (Err bad) = refl
 
--- one line more was read
+-- one more line was read
 pub one_line_more : (bytes : List ℕ) (number : ℕ) (text : List ℕ) (more : List (List ℕ)) (before after : List LineEdit)
     → AddsLine number text before after → Leads bytes number (text ∷ more) before → Leads bytes (number + 1) more after
 one_line_more bytes number text more before after adds leads answer said =
@@ -66,7 +66,7 @@ pub all_lines :
 all_lines bytes number edits leads =
     subst (λ (x : List LineEdit). Says bytes (Ok x)) (append-nil edits) (leads (Ok []) tt)
 
--- the edit of a line is put behind others
+-- the edit of a line is appended to others
 pub edit_added : (number : ℕ) (text : List ℕ) (edit : Edit) (before after : List LineEdit)
     → 0 < length text → Encodes text edit → after ≡ before ++ record { line = number; edit = edit } ∷ []
     → AddsLine number text before after
@@ -74,7 +74,7 @@ edit_added number [] edit before after some encodes is = absurd (omega arith)
 edit_added number (b ∷ text) edit before after some encodes is =
     (record { line = number; edit = edit } ∷ [], ((refl, encodes), tt), is)
 
--- the rest of a list is cut at its first newline
+-- the rest of a list with a newline is split at the first one
 pub cut_leads : (bytes : List ℕ) (number : ℕ) (rest text after : List ℕ) (front : List LineEdit)
     → All (λ b. (b == 10) ≡ false) text × (rest ≡ text ++ 10 ∷ after)
     → Leads bytes number (slice_split (λ byte. byte == 10) rest) front
@@ -92,7 +92,7 @@ last_leads bytes number rest front all leads =
     subst (λ (pieces : List (List ℕ)). Leads bytes number pieces front)
     (slice_split_none (λ byte. byte == 10) rest all) leads
 
--- why a list gave no edits, where one of its lines was not added
+-- why a list gave no edits if one of its lines was not added
 pub refused_there :
     (bytes : List ℕ) (number : ℕ) (text : List ℕ) (more : List (List ℕ)) (front : List LineEdit) (error : ParseError)
     → WhyNotAdded number text error → Leads bytes number (text ∷ more) front → WhyNotParsed bytes error

@@ -6,7 +6,7 @@ use Rattle.edit_spec.specs.Edit.{Size}
 use Rattle.edit_spec.specs.Editing.{edited_once}
 use Rattle.edit_list.specs.Showing.{Shows}
 
--- a byte among those that are written, and one beside them
+-- a byte among the written ones, and one beside them
 at-inside :
     (offset : ℕ) (bytes input : List ℕ) (p : ℕ) → offset + length bytes ≤ length input → offset ≤ p
     → p < offset + length bytes
@@ -23,7 +23,7 @@ at-behind :
     → get_or (take offset input ++ bytes ++ drop (offset + length bytes) input) p 0 ≡ get_or input p 0
 at-behind offset bytes input p fits high = grind (arith, common_steps)
 
--- a byte of an input that got another length
+-- a byte of an input whose length was changed
 at-cut :
     (size : ℕ) (input : List ℕ) (p : ℕ) → p < size
     → get_or (take size input ++ replicate (size - length input) 0) p 0 ≡ get_or input p 0
@@ -32,7 +32,7 @@ at-cut size input p under = grind (arith, common_steps)
 at-end : (input : List ℕ) (p : ℕ) → length input ≤ p → get_or input p 0 ≡ 0
 at-end input p past = grind (arith, common_steps)
 
--- a new length leaves what is shown
+-- a change of length keeps what is shown
 pub shows-size :
     (buffer input : List ℕ) (size after : ℕ) → Shows buffer input (min (length input) (min after size))
     → Shows buffer (edited_once (Size size) input) (min size after)
@@ -85,7 +85,7 @@ shows-cleared buffer input kept fits shows p = (low, high)
           | inr past ↦ at-back past
         ]
 
--- a buffer that got another length shows the input
+-- a buffer whose length was changed shows the input
 pub shows-resized :
     (input : List ℕ) (last : ℕ) → Shows (take last input ++ replicate (last - length input) 0) input last
 shows-resized input last p = (low, high)

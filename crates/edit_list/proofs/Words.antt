@@ -30,7 +30,7 @@ no_space (c ∷ cs) h =
 pub no_space-decimal : (n : ℕ) → n < number_limit → All NoSpace (decimal n)
 no_space-decimal n small = no_space (decimal n) (digits_decimal decimal_texts n (omega arith))
 
--- the first space is found again, and what stands around it
+-- the first space is found again, with the bytes before and after it
 pub around_first_space :
     (xs ys a b : List ℕ) → All NoSpace xs → All NoSpace ys → xs ++ 32 ∷ a ≡ ys ++ 32 ∷ b
     → (xs ≡ ys) × (a ≡ b)
@@ -48,7 +48,7 @@ around_first_space (x ∷ xs) (y ∷ ys) a b p q e =
     let k = around_first_space xs ys a b (All-tail NoSpace x xs p) (All-tail NoSpace y ys q) tails in
     (cc, k.1)
 
--- where no space is, none is found
+-- if there is no space, none is found
 pub space_is_there : (xs ys a : List ℕ) → All NoSpace xs → xs ≡ ys ++ 32 ∷ a → ⊥
 space_is_there [] [] a p e = cc
 space_is_there [] (y ∷ ys) a p e = cc
@@ -59,14 +59,14 @@ space_is_there (x ∷ xs) [] a p e =
 space_is_there (x ∷ xs) (y ∷ ys) a p e =
     let tails : xs ≡ ys ++ 32 ∷ a = cc in space_is_there xs ys a (All-tail NoSpace x xs p) tails
 
--- what a line says that begins with `set `
+-- what a line that begins with `set ` encodes
 pub set_line : (rest : List ℕ) → IsEdit (codes "set " ++ rest)
     → (offset : ℕ) × (bytes : List ℕ) × (digits : List ℕ) × (offset < number_limit) × (0 < length bytes)
     × EncodeBytes digits bytes × (rest ≡ decimal offset ++ 32 ∷ digits)
 set_line rest (Set offset bytes, s) = (offset, bytes, s.2, s.0, s.1, s.3, cc)
 set_line rest (Size size, s) = absurd (other_word (codes "set " ++ rest) refl (sym s.1))
 
--- what a line says that begins with `size `
+-- what a line that begins with `size ` encodes
 pub size_line :
     (rest : List ℕ) → IsEdit (codes "size " ++ rest)
     → (size : ℕ) × (size < number_limit) × (rest ≡ decimal size)
@@ -81,7 +81,7 @@ pub no_other_line :
 no_other_line text no_set no_size (Set offset bytes, s) = no_set (decimal offset ++ 32 ∷ s.2) s.4
 no_other_line text no_set no_size (Size size, s) = no_size (decimal size) s.1
 
--- why a line that begins with `set ` gave no edit, where its digits gave no bytes
+-- why a line that begins with `set ` gave no edit if its digits gave no bytes
 pub no_set_without_bytes : (rest digits : List ℕ) (answer : LineFault) → WhyNoBytes digits answer
     → (IsEdit (codes "set " ++ rest) → (bytes : List ℕ) × (0 < length bytes) × EncodeBytes digits bytes)
     → WhyNoEdit (codes "set " ++ rest) answer

@@ -1,4 +1,4 @@
--- What edits make of bytes is bytes: the digits of a `set` line encode bytes, and an input grows by zero bytes.
+-- Edits turn bytes into bytes: the digits of a `set` line encode bytes, and an input grows by zero bytes.
 use Rattle.std.proofs.Common.{◌≡◌, ◌<◌, ◌+◌, ◌-◌, ◌/◌, ℕ, List, [], ◌∷◌, ◌++◌, length, take, drop, replicate, Some, Ok, Err, inl, inr, subst, lit<, arith}
 use Rattle.std.specs.List.{All, AllByRecursion}
 use Rattle.std.proofs.lemmas.List.Elements.{All-from_recursion, recursion_from_All, All-append, All-take, All-drop, All-replicate}
@@ -30,7 +30,7 @@ encoded-bytes (high ∷ low ∷ digits) [] encoded = absurd encoded
 encoded-bytes (high ∷ low ∷ digits) (byte ∷ bytes) encoded =
     (one-byte high byte encoded.0, encoded-bytes digits bytes encoded.2)
 
--- what a line encodes makes bytes of bytes
+-- the edit that a line encodes turns bytes into bytes
 once-bytes :
     (text : List ℕ) (edit : Edit) (input : List ℕ) → Encodes text edit → All IsByte input
     → All IsByte (edited_once edit input)

@@ -1,5 +1,5 @@
--- Whether a line encodes an edit is decided, so each list of edits says something. Numbers of lines are bounded, so
--- each is tried; no definition computes this.
+-- It is decidable whether a line encodes an edit, so each list of edits encodes something. Numbers of lines are
+-- bounded, so each is tried; no definition computes this.
 use Rattle.std.proofs.Common.{◌≡◌, ◌<◌, ◌+◌, ◌*◌, ◌/◌, ◌%◌, ℕ, zero, suc, List, [], ◌∷◌, ◌++◌, length, Option, Some, None, Result, Ok, Err, ◌⊎◌, inl, inr, refl, ap, sym, ◌∙◌, subst, append_assoc, arith}
 use Rattle.std.proofs.lemmas.List.{append_cancel_left}
 use Rattle.std.proofs.lemmas.Bool.{cases_eq}
@@ -13,7 +13,7 @@ use Rattle.edit_spec.specs.Grammar.{number_limit, space, EncodeBytes, Encodes, I
 abbrev pub Decided : Type 0 → Type 0
 Decided A = A ⊎ (A → ⊥)
 
--- some number below a bound has a fact that is decided of each
+-- some number below a bound has a property that is decidable for each
 some-below : (P : ℕ → Type 0) → ((i : ℕ) → Decided (P i)) → (n : ℕ) → Decided ((i : ℕ) × (i < n) × P i)
 some-below P each zero = inr (λ found. let below : found.0 < 0 = found.1 in omega arith)
 some-below P each (suc n) = by (some-below P each n) (each n)
@@ -68,14 +68,14 @@ rest-after (x ∷ prefix) (y ∷ text) = by (cases_eq y x) (rest-after prefix te
     by (inr other) found =
         inr (λ there. other (let all : y ∷ text ≡ x ∷ (prefix ++ there.0) = there.1 in let here : y ≡ x = cc in here))
 
--- an answer isn't two
+-- an option isn't both none and a value
 none-some : (o : Option ℕ) (n : ℕ) → o ≡ None → o ≡ Some n → ⊥
 none-some o n p q = cc
 
 two-some : (o : Option ℕ) (m n : ℕ) → o ≡ Some m → o ≡ Some n → m ≡ n
 two-some o m n p q = cc
 
--- two digits encode a byte where each has a value, and the lower one's is below 16
+-- two digits encode a byte exactly if each has a value and the lower one's is below 16
 no-byte-high :
     (high low : ℕ) (digits bytes : List ℕ) → hex_digit_value high ≡ None → EncodeBytes (high ∷ low ∷ digits) bytes
     → ⊥

@@ -18,7 +18,7 @@ decimal_texts = numerals_by_value (λ ds. all_ascii_digits ds ≡ true) tells_al
 pub digits-decimal : (n : ℕ) → n < number_limit → all_ascii_digits (decimal n) ≡ true
 digits-decimal n h = digits_decimal decimal_texts n (omega arith)
 
--- a space ends digits, so they and what follows are found again
+-- the first space ends the digits, so they and what follows are determined
 pub same_around_space :
     (xs ys a b : List ℕ) → all_ascii_digits xs ≡ true → all_ascii_digits ys ≡ true → xs ++ 32 ∷ a ≡ ys ++ 32 ∷ b
     → (xs ≡ ys) × (a ≡ b)
@@ -40,11 +40,11 @@ same_around_space (x ∷ xs) (y ∷ ys) a b p q e =
     (and_parts (is_ascii_digit y) (all_ascii_digits ys) q).1 tails in
     (cc, k.1)
 
--- two digits are of one byte
+-- two digits encode at most one byte
 one_byte : (a b : ℕ) → a / 16 ≡ b / 16 → a % 16 ≡ b % 16 → a ≡ b
 one_byte a b high low = omega arith
 
--- digits encode one list of bytes
+-- digits encode at most one list of bytes
 pub same_bytes : (digits a b : List ℕ) → EncodeBytes digits a → EncodeBytes digits b → a ≡ b
 same_bytes [] [] [] p q = refl
 same_bytes [] [] (y ∷ b) p q = absurd q

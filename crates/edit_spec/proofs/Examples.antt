@@ -14,7 +14,7 @@ five = 1 ∷ 2 ∷ 3 ∷ 4 ∷ 5 ∷ []
 abbrev pub cut_and_set : List LineEdit
 cut_and_set = record { line = 1; edit = Size 3 } ∷ record { line = 2; edit = Set 2 (255 ∷ []) } ∷ []
 
--- letters stand in either case
+-- letters may be upper or lower case
 pub set_is_encoded : Encodes (codes "set 2 fF") (Set 2 (255 ∷ []))
 unfolding digits
 set_is_encoded = (lit< tt, lit< tt, codes "fF", (refl, refl, tt), refl)
@@ -39,7 +39,7 @@ pub list_is_said : Says (codes "\n\nsize 0\n") (Ok (record { line = 3; edit = Si
 unfolding lines
 list_is_said = ((refl, zero_is_encoded), tt)
 
--- a `set` of no byte is no edit
+-- a `set` without bytes is no edit
 pub no_byte_is_no_edit : IsEdit (codes "set 7 ") → ⊥
 unfolding digits
 no_byte_is_no_edit (Set offset bytes, p) =
@@ -58,7 +58,7 @@ pub no_byte_is_said : Says (codes "size 3\nset 7 \n") (Err 2)
 unfolding lines digits
 no_byte_is_said = inr ((Size 3, (lit< tt, refl)), inl (no_byte_is_no_edit, refl))
 
--- the third byte is ff, and the last two are cut
+-- the third byte is ff, and the last two are cut off
 pub third_byte_is_set : edited cut_and_set five ≡ Ok (1 ∷ 2 ∷ 255 ∷ [])
 third_byte_is_set = refl
 
@@ -70,7 +70,7 @@ too_long = refl
 pub set_at_the_end : edited (record { line = 1; edit = Set 5 (0 ∷ []) } ∷ []) five ≡ Err 1
 set_at_the_end = refl
 
--- the bound is that of the input as the line before left it
+-- the bound is the length of the input after the line before
 pub set_after_a_cut :
     edited (record { line = 1; edit = Size 3 } ∷ record { line = 2; edit = Set 3 (0 ∷ []) } ∷ []) five ≡ Err 2
 set_after_a_cut = refl

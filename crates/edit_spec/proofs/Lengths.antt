@@ -7,7 +7,7 @@ use Rattle.machine_spec.specs.declared.TheConstants.{MOST_INPUT_BYTES}
 use Rattle.edit_spec.specs.Edit.{Edit, Set, Size, LineEdit}
 use Rattle.edit_spec.specs.Editing.{is_out_of_range, edited_once, edited}
 
--- which way a choice of answers went
+-- which branch a choice between answers took
 pub chosen :
     {A : Type 0} (b : Bool) (x y z : A) → (if b then x else y) ≡ z → ((b ≡ true) × (x ≡ z)) ⊎ ((b ≡ false) × (y ≡ z))
 chosen true x y z e = inl (refl, e)

@@ -1,4 +1,4 @@
--- A list says one thing.
+-- A list encodes one thing.
 use Rattle.std.proofs.Common.{◌≡◌, ℕ, List, [], ◌∷◌, Result, Ok, Err, refl, ap, sym, ◌∙◌, inl, inr}
 use Rattle.edit_spec.specs.Edit.{Edit, LineEdit}
 use Rattle.edit_spec.specs.Grammar.{Line, EncodeAll, IsFirstBad, Say}
@@ -24,7 +24,7 @@ same_edits (line ∷ lines) (x ∷ a) (y ∷ b) p q =
     let front : x ≡ y = same_line_edit x.line y.line x.edit y.edit number edit in
     cc
 
--- where all lines encode edits, none is bad
+-- if all lines encode edits, none is bad
 none_bad : (lines : List Line) (edits : List LineEdit) (number : ℕ) → EncodeAll lines edits → IsFirstBad lines number → ⊥
 none_bad [] edits number p q = q
 none_bad (line ∷ lines) [] number p q = p

@@ -1,4 +1,4 @@
--- What a loop along the program headers gathers of their segments.
+-- What a loop over the program headers collects of their segments.
 use Rattle.std.proofs.Common.{◌≡◌, ℕ, ◌+◌, max, Bool, true, false, cond, ◌&&◌, ◌||◌, List, [], ◌∷◌, ◌++◌, map, filter, fold, length, refl, ap, ◌∙◌, zero-add, add-zero, append-nil, length-append}
 use Rattle.std.specs.List.{range_with_len, list_any}
 use Rattle.std.proofs.lemmas.List.FromFn.{filter_of_map_range_with_len_more}
@@ -15,7 +15,7 @@ or_false : (b : Bool) → (b || false) ≡ b
 or_false true = refl
 or_false false = refl
 
--- the segments among one header more
+-- the segments of one more header
 pub segments_more :
     (bytes : List ℕ) (i : ℕ)
     → segments_below bytes (i + 1)
@@ -54,7 +54,7 @@ highest_more bytes i =
       | false ↦ ap highest_page (append-nil before)
     ]
 
--- how many numbers of a range pass a test, with one number more
+-- how many numbers of a range pass a test, with one more number
 pub count_more :
     (test : ℕ → Bool) (n : ℕ)
     → length (filter test (range_with_len 0 (n + 1)))

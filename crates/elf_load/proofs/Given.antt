@@ -3,13 +3,13 @@ use Rattle.std.proofs.Common.{◌≡◌, List, [], ◌∷◌, ◌++◌, Option, 
 use Rattle.elf_spec.specs.declared.Refusal.{Refusal}
 use Rattle.elf_spec.specs.Refusals.{first_given}
 
--- a row that gives none is passed over
+-- a row that gives no refusal is skipped
 pub skip :
     (row : Option Refusal) (rest : List (Option Refusal)) → row ≡ None
     → first_given (row ∷ rest) ≡ first_given rest
 skip row rest none = ap (λ o. first_given (o ∷ rest)) none
 
--- a row that gives one is the answer
+-- if a row gives a refusal, that is the answer
 pub stop :
     (row : Option Refusal) (rest : List (Option Refusal)) (refusal : Refusal) → row ≡ Some refusal
     → first_given (row ∷ rest) ≡ Some refusal

@@ -32,7 +32,7 @@ part_fits bytes segment start first end from to =
     let high : segment.vaddr - start + (end - first) ≤ segment.vaddr + segment.memsz - start = omega (arith, from, to) in
     omega (arith, count, low, high)
 
--- the part has the segment's bytes on the page, and behind it the segment has zeros
+-- the part has the segment's bytes on the page, and after it the segment has zeros
 pub part_has :
     (bytes : List ℕ) (segment : ProgramHeader) (start first end k : ℕ)
     → first ≡ place_in_file bytes segment start → end ≡ place_in_file bytes segment (start + 4096)
@@ -138,7 +138,7 @@ HasNoPart bytes number header =
     → get_or part (k - offset_on number header.vaddr) 0
     ≡ segment_byte bytes (Some (header_of header)) (4096 * number + k))
 
--- where no header has a part, the first that has an address has a zero there
+-- if no header has a part, the first that has an address has a zero there
 no_byte :
     (bytes : List ℕ) (number k : ℕ) (headers : List Header) → k < 4096 → All (HasNoPart bytes number) headers
     → first_byte bytes headers (4096 * number + k) ≡ 0
@@ -163,7 +163,7 @@ page_blank bytes near number same none =
     sym (page_is bytes near number (replicate 4096 0) same (length-replicate {A = ℕ} 4096 0)
     (λ k inside. get_or-replicate 4096 k 0 0 inside ∙ sym (no_byte bytes number k near inside none)))
 
--- a byte of a page of which a part was written, before the part, in it and behind it
+-- a page into which a part was written: its bytes before the part, in it and after it
 written_before :
     (start count k : ℕ) (page part : List ℕ) → start + count ≤ length page → length part ≡ count → k < start
     → get_or (put_mid start count page part) k 0 ≡ get_or page k 0
@@ -207,7 +207,7 @@ not_behind :
 not_behind segment number end k to inside above =
     and_right _ _ (le-ltb (4096 * number + k) (segment.vaddr + segment.memsz) (omega (arith, to, inside, above)))
 
--- a page into which a segment was written: its part of the file, and zeros behind it
+-- a page into which a segment was written: its part of the file, and zeros after it
 pub written_segment :
     (bytes page part copied cleared : List ℕ) (segment : ProgramHeader) (number start end k : ℕ)
     → start ≡ offset_on number segment.vaddr → end ≡ offset_on number (segment.vaddr + segment.memsz)
@@ -287,7 +287,7 @@ written_segment bytes page part copied cleared segment number start end k from t
     has : start ≤ k → k < end → has_address segment (4096 * number + k) ≡ true
     has low high = has_there segment number start end k from to inside low high
 
--- the first byte of headers with one more in front
+-- the first byte of headers with one more at the front
 chosen :
     (bytes : List ℕ) (header : Header) (headers : List Header) (address byte : ℕ)
     → byte ≡ first_byte bytes headers address
@@ -299,7 +299,7 @@ chosen bytes header headers address byte is =
       | inr not ↦ rw not is
     ]
 
--- one segment more is written into a page
+-- one more segment is written into a page
 pub written_more :
     (bytes page after : List ℕ) (so_far : List (Bor Header)) (header : Bor Header) (number k : ℕ)
     → get_or after k 0

@@ -1,9 +1,9 @@
--- A search along the numbers from one on, as a loop makes it.
+-- A search over consecutive numbers, as a loop makes it.
 use Rattle.std.proofs.Common.{◌≡◌, ℕ, zero, suc, ◌+◌, ◌-◌, ◌<◌, Bool, true, false, cond, List, [], ◌∷◌, ◌++◌, map, find, filter, flat_map, Option, Some, None, option_map, refl, ap, sym, ◌∙◌, arith, subst, add-zero, append-nil}
 use Rattle.std.specs.List.{range_with_len}
 use Rattle.std.proofs.lemmas.List.Concat.{flat_map-append}
 
--- where the first is passed over, the search goes on
+-- if the first is skipped, the search continues
 skipped : {X : Type 0} (b : Bool) (x : X) (rest : Option X) → cond b (Some x) rest ≡ None → (b ≡ false) × (rest ≡ None)
 skipped true x rest none = absurd (cc)
 skipped false x rest none = (refl, none)
@@ -54,7 +54,7 @@ range_split a (suc m) k =
     ap (λ n. range_with_len a n) s
     ∙ ap (λ rest. a ∷ rest) (range_split (a + 1) m k ∙ ap (λ b. range_with_len (a + 1) m ++ range_with_len b k) t)
 
--- a search goes on behind a list in which it found nothing, and stops in one in which it found
+-- a search of two lists continues in the second exactly if it found nothing in the first
 pub find_behind :
     {X : Type 0} (test : X → Bool) (xs ys : List X) → find test xs ≡ None
     → find test (xs ++ ys) ≡ find test ys
@@ -114,7 +114,7 @@ not_found :
 not_found true x kept all passes same = let bad : false ≡ true = passes refl in absurd (cc)
 not_found false x kept all passes same = same
 
--- a search with one more, which is kept or not
+-- a search with one more element, which is kept or not
 find-filter-one :
     {X : Type 0} (test : X → Bool) (k : Bool) (x : X) (kept all : List X) → (test x ≡ true → k ≡ true)
     → find test kept ≡ find test all
@@ -122,7 +122,7 @@ find-filter-one :
 find-filter-one test true x kept all passes same = ap (λ rest. cond (test x) (Some x) rest) same
 find-filter-one test false x kept all passes same = not_found (test x) x (find test kept) (find test all) passes same
 
--- a search among those that are kept, where all that it could find are
+-- a search among the kept elements, if each that passes its test is kept
 pub find-filter :
     {X : Type 0} (test keeps : X → Bool) → ((x : X) → test x ≡ true → keeps x ≡ true) → (xs : List X)
     → find test (filter keeps xs) ≡ find test xs
@@ -130,7 +130,7 @@ find-filter test keeps passes [] = refl
 find-filter test keeps passes (x ∷ xs) =
     find-filter-one test (keeps x) x (filter keeps xs) xs (passes x) (find-filter test keeps passes xs)
 
--- the images of those that are kept are the images that are kept
+-- the images of the kept elements are the kept images
 pub map-filter :
     {X Y : Type 0} (f : X → Y) (keeps : Y → Bool) (xs : List X)
     → map f (filter (λ x. keeps (f x)) xs) ≡ filter keeps (map f xs)

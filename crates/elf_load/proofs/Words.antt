@@ -1,4 +1,4 @@
--- Numbers that are put together from the bytes at an offset.
+-- Numbers that are made from the bytes at an offset.
 use Rattle.std.proofs.Common.{◌≡◌, ℕ, ◌+◌, List, [], ◌∷◌, get_or, drop, arith, ap, ◌∙◌, add-zero, get_or-drop}
 use Rattle.byteorder.specs.Endian.{little_number}
 use Rattle.elf_spec.specs.Fields.{u16_at, u32_at}

@@ -28,7 +28,7 @@ hi_program =
     0x73 ∷ 0x00 ∷ 0x00 ∷ 0x00 ∷ 0x13 ∷ 0x05 ∷ 0x00 ∷ 0x00 ∷ 0x93 ∷ 0x08 ∷ 0x00 ∷ 0x00 ∷ 0x73 ∷ 0x00 ∷ 0x00 ∷ 0x00 ∷
     0x68 ∷ 0x69 ∷ 0x0a ∷ []
 
--- a guest that puts out "hi" and ends
+-- a guest that prints "hi" and ends
 abbrev pub hi_elf : List ℕ
 hi_elf = hi_header ++ hi_program_header ++ hi_program
 
@@ -202,7 +202,7 @@ pub a_linked_file_has_three_pages :
 unfolding image_pages u16_at u32_at
 a_linked_file_has_three_pages = refl
 
--- code moved to 0x100d4, behind the read-only bytes: R and R X together
+-- code moved to 0x100d4, after the read-only bytes: R and R X together
 pub a_shared_page_has_all_rights :
     image_pages (slice_set linked_elf 125 0x00) ≡ record { number = 16; permission = 5 }
     ∷ record { number = 19; permission = 6 } ∷ []

@@ -129,13 +129,13 @@ pub pages-1024 : refusal_of (slice_set (slice_set (slice_set (slice_set hi_elf 7
 unfolding refusal_of u16_at u32_at
 pages-1024 = refl
 
--- past its bytes in the file a segment is zero, though the file goes on
+-- past its bytes in the file a segment is zero, even if the file continues
 pub memory_tail :
     map (image_byte (slice_set (hi_elf ++ 9 ∷ 9 ∷ []) 72 0x25)) (0x10022 ∷ 0x10023 ∷ 0x10024 ∷ []) ≡ 0x0a ∷ 0 ∷ 0 ∷ []
 unfolding image_byte u16_at u32_at
 memory_tail = refl
 
--- from 0x1000 on a segment is inside, and from 0xFFF on it is not
+-- a segment at 0x1000 is inside, and one at 0xFFF is not
 pub inside-low : outside (slice_set (slice_set hi_elf 61 0x10) 62 0x00) ≡ None
 unfolding u16_at u32_at
 inside-low = refl

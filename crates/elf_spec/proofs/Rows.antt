@@ -1,4 +1,4 @@
--- What no refusal says of a file, row by row.
+-- What follows for a file without a refusal, row by row.
 use Rattle.std.proofs.Common.{◌≡◌, ℕ, zero, suc, ◌/◌, ◌%◌, ◌≤◌, Bool, true, false, not, ◌&&◌, ◌==◌, List, [], ◌∷◌, Option, Some, None, is_none, refl, get_or}
 use Rattle.std.specs.Int.{bit_at}
 use Rattle.std.proofs.lemmas.Bool.{and_parts, ltb-false, eqb-true, not-false}
@@ -9,14 +9,14 @@ use Rattle.elf_spec.specs.Segments.{page_permission}
 use Rattle.elf_spec.specs.Refusals.{refuse_if, first_given, refusals, refusal_of, page_count, is_executable}
 use Rattle.elf_spec.specs.Image.{is_image}
 
--- a file is accepted where it gets no refusal
+-- a file is accepted if it gets no refusal
 pub none_given : (bytes : List ℕ) → is_image bytes ≡ true → first_given (refusals bytes) ≡ None
 unfolding is_image refusal_of
 none_given bytes accepted =
     elim (first_given (refusals bytes)) as
     (λ o. is_none o ≡ true → o ≡ None) [ None ↦ λ _. refl | Some r ↦ λ h. absurd (cc) ] accepted
 
--- where no refusal is given, no row gives one
+-- if no refusal is given, no row gives one
 pub none_at : (rows : List (Option Refusal)) (k : ℕ) → first_given rows ≡ None → get_or rows k None ≡ None
 none_at [] k none = refl
 none_at (None ∷ rest) zero none = refl

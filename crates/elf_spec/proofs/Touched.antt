@@ -40,7 +40,7 @@ range_ascends a n k below =
 pub page_numbers_ascend : (list : List ProgramHeader) → IsStrictlyIncreasing (page_numbers list)
 page_numbers_ascend list = IsStrictlyIncreasing-filter _ _ (range_ascends 0 (highest_page list + 1))
 
--- an element stays an element behind another one
+-- an element of a list is one of the list with another at the front
 Contains-cons : {X : Type 0} (y x : X) (xs : List X) → Contains xs x → Contains (y ∷ xs) x
 Contains-cons y x xs (k, below, is) = (suc k, omega arith, is)
 
@@ -48,7 +48,7 @@ Contains-cons y x xs (k, below, is) = (suc k, omega arith, is)
 in_range : (n k : ℕ) → k < n → Contains (range_with_len 0 n) k
 in_range n k below = (k, rw length-range_with_len below, get_or-range_with_len 0 n k k below ∙ zero-add k)
 
--- what passes the test stays in a filter
+-- an element that passes the test stays in a filter
 Contains-filter_cons :
     {X : Type 0} (p : X → Bool) (y x : X) (xs : List X) → p x ≡ true → Contains (y ∷ xs) x
     → (Contains xs x → Contains (filter p xs) x) → Contains (filter p (y ∷ xs)) x
@@ -124,7 +124,7 @@ passing_is_there list number passes =
     Contains-filter (λ n. list_any (touches n) list) number _ passes
     (in_range (highest_page list + 1) number (omega arith))
 
--- a page is in the list exactly where a segment has an address on it
+-- a page is in the list exactly if a segment has an address on it
 pub touched_is_there :
     (list : List ProgramHeader) (number : ℕ) → IsTouched list number → Contains (page_numbers list) number
 touched_is_there list number (k, s, below, is, (address, has, on)) =
@@ -155,7 +155,7 @@ pages_touched bytes number =
       touched_is_there (segments bytes) number,
     )
 
--- where no element passes, a filter keeps none
+-- if no element passes, a filter keeps none
 filter_none : {X : Type 0} (p : X → Bool) (xs : List X) → list_any p xs ≡ false → filter p xs ≡ []
 filter_none p [] none = refl
 filter_none p (x ∷ xs) none =
@@ -188,7 +188,7 @@ page_with_right bytes number right =
       (refl, right),
     )
 
--- a search that finds none passes over each element
+-- a search that finds none skips each element
 find_none : {X : Type 0} (p : X → Bool) (xs : List X) → find p xs ≡ None → All (λ x. p x ≡ false) xs
 find_none p [] none = All-nil _
 find_none p (x ∷ xs) none =

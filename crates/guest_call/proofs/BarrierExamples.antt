@@ -8,7 +8,7 @@ use Rattle.guest_call.specs.Barriers.{Barrier, uninitialised}
 use Rattle.guest_call.specs.Objects.{Objects, all_uninitialised, opening, act, acts_on}
 use Rattle.guest_call.proofs.Examples.{all_readable, effect_of, four_threads, then_call}
 
--- how barrier 0 stands
+-- the state of barrier 0
 abbrev pub zeroth : Objects → Barrier
 zeroth o = slice_index_or o.barriers 0 uninitialised
 
@@ -22,7 +22,7 @@ two_came = then_call (then_call of_three 0 (BarrierWait 0)) 1 (BarrierWait 0)
 
 -- barrier_init.
 
--- the barrier counts as many as are given
+-- the barrier has the count that is given
 pub barrier_init-answers-0 : effect_of four_threads 0 (BarrierInit 0 3) ≡ answers 0
 unfolding all_uninitialised
 barrier_init-answers-0 = refl
@@ -31,7 +31,7 @@ pub barrier_init-sets-the-count : zeroth of_three ≡ record { count = Some 3; q
 unfolding all_uninitialised
 barrier_init-sets-the-count = refl
 
--- again while nobody waits
+-- again while no thread waits
 pub barrier_init-again-sets-the-count :
     zeroth (then_call of_three 1 (BarrierInit 0 2)) ≡ record { count = Some 2; queue = [] }
 unfolding all_uninitialised
@@ -64,7 +64,7 @@ pub barrier_init-of-barrier-63-answers-0 : effect_of four_threads 0 (BarrierInit
 unfolding all_uninitialised
 barrier_init-of-barrier-63-answers-0 = refl
 
--- while somebody waits: EBUSY is 16 and 2^32 - 16 is 4294967280, and nothing changes
+-- while a thread waits: EBUSY is 16 and 2^32 - 16 is 4294967280, and nothing changes
 pub barrier_init-while-somebody-waits-is-busy : effect_of two_came 2 (BarrierInit 0 3) ≡ answers 4294967280
 unfolding all_uninitialised
 barrier_init-while-somebody-waits-is-busy = refl
@@ -99,7 +99,7 @@ pub barrier_wait-of-the-last-empties-the-queue :
 unfolding all_uninitialised
 barrier_wait-of-the-last-empties-the-queue = refl
 
--- at a barrier of 1 nobody blocks
+-- at a barrier of 1 no thread blocks
 pub barrier_wait-at-1-answers-1 : effect_of (then_call four_threads 0 (BarrierInit 0 1)) 3 (BarrierWait 0) ≡ answers 1
 unfolding all_uninitialised
 barrier_wait-at-1-answers-1 = refl
@@ -114,7 +114,7 @@ pub barrier_wait-at-barrier-64-is-invalid :
     act all_readable of_three 0 (BarrierWait 64) ≡ (answers 4294967274, of_three)
 barrier_wait-at-barrier-64-is-invalid = refl
 
--- What they act on: their barrier, where the arguments are in range.
+-- What they act on: their barrier, if the arguments are in range.
 
 pub barrier_init-acts-on-its-barrier : acts_on all_readable opening (BarrierInit 63 32) ≡ object.Barrier 63 ∷ []
 barrier_init-acts-on-its-barrier = refl

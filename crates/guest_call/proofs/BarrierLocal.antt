@@ -10,12 +10,12 @@ use Rattle.guest_call.specs.Objects.{Objects, on_barrier, one_of, IsKept}
 use Rattle.guest_call.specs.Locality.{BarrierPart, part_of, is_among, IsLocalBy}
 use Rattle.guest_call.proofs.Locality.{nothing_local, seen_local, among_one}
 
--- a row on the barrier of number i, done where it is there
+-- a row on barrier i, if there is one
 abbrev pub barrier_done : (Barrier → Effect × Barrier) → ℕ → Objects → Effect × Objects
 barrier_done row i o =
     let r = row (slice_index_or o.barriers i uninitialised) in (r.0, record o { barriers = slice_set o.barriers i r.1 })
 
--- a row on a barrier that is there
+-- a row on a barrier that exists
 pub barrier_local :
     (row : Barrier → Effect × Barrier) (i : ℕ) (o : Objects) → i < 64 → IsKept o
     → IsLocalBy (barrier_done row i) (λ x. BarrierOf i ∷ []) o

@@ -10,11 +10,11 @@ use Rattle.guest_call.specs.Conditions.{Condition, unawaited}
 use Rattle.guest_call.specs.Objects.{Objects, all_unlocked, all_unawaited, opening, act, acts_on}
 use Rattle.guest_call.proofs.Examples.{all_readable, effect_of, four_threads, then_call}
 
--- how condition 0 stands
+-- the state of condition 0
 abbrev pub condition_0 : Objects → Condition
 condition_0 o = slice_index_or o.conditions 0 unawaited
 
--- how mutex 0 stands
+-- the state of mutex 0
 abbrev pub mutex_0 : Objects → Mutex
 mutex_0 o = slice_index_or o.mutexes 0 unlocked
 
@@ -65,7 +65,7 @@ locked = then_call four_threads 1 (Lock 0)
 abbrev pub one_waits : Objects
 one_waits = then_call locked 1 (CondWait 0 0)
 
--- thread 0 holds the mutex that thread 1 gave up
+-- thread 0 holds the mutex that thread 1 released
 abbrev pub taken : Objects
 taken = then_call one_waits 0 (Lock 0)
 
@@ -92,7 +92,7 @@ pub lock-of-a-given-up-mutex-answers-0 : effect_of one_waits 0 (Lock 0) ≡ answ
 unfolding all_unlocked all_unawaited
 lock-of-a-given-up-mutex-answers-0 = refl
 
--- a signal while the mutex is held wakes nobody
+-- a signal while the mutex is held wakes no thread
 pub signal-of-a-held-mutex-answers-0 : effect_of taken 0 (Signal 0) ≡ answers 0
 unfolding all_unlocked all_unawaited
 signal-of-a-held-mutex-answers-0 = refl
@@ -106,7 +106,7 @@ pub signal-of-a-held-mutex-waits-for-it : mutex_0 signalled ≡ record { owner =
 unfolding all_unlocked all_unawaited
 signal-of-a-held-mutex-waits-for-it = refl
 
--- the unlock hands the mutex over, and wakes it
+-- the unlock hands the mutex over to the thread, and wakes it
 pub unlock-wakes-who-was-signalled :
     effect_of signalled 0 (Unlock 0) ≡ record { fate = Returns 0 None; woken = 1 ∷ []; reported = None; created = None }
 unfolding all_unlocked all_unawaited
@@ -119,7 +119,7 @@ unlock-hands-over-to-who-was-signalled = refl
 
 -- cond_wait.
 
--- as in unlock, the first who waits for the mutex gets it
+-- as in unlock, the first thread that waits for the mutex gets it
 pub cond_wait-wakes-the-first :
     effect_of (then_call locked 2 (Lock 0)) 1 (CondWait 0 0)
     ≡ record { fate = Blocks; woken = 2 ∷ []; reported = None; created = None }
@@ -131,7 +131,7 @@ pub cond_wait-hands-over :
 unfolding all_unlocked all_unawaited
 cond_wait-hands-over = refl
 
--- who isn't the owner: EPERM is 1 and 2^32 - 1 is 4294967295, and nothing changes
+-- a caller that isn't the owner: EPERM is 1 and 2^32 - 1 is 4294967295, and nothing changes
 pub cond_wait-of-a-free-mutex-is-not-permitted :
     act all_readable opening 0 (CondWait 0 0) ≡ (answers 4294967295, opening)
 unfolding all_unlocked all_unawaited
@@ -141,7 +141,7 @@ pub cond_wait-by-another-is-not-permitted : effect_of locked 2 (CondWait 0 0) �
 unfolding all_unlocked all_unawaited
 cond_wait-by-another-is-not-permitted = refl
 
--- another mutex than that of who waits: EINVAL, and the caller keeps it
+-- another mutex than that of the waiting thread: EINVAL, and the caller keeps it
 pub cond_wait-with-another-mutex-is-invalid :
     effect_of (then_call one_waits 2 (Lock 5)) 2 (CondWait 0 5) ≡ answers 4294967274
 unfolding all_unlocked all_unawaited
@@ -158,12 +158,12 @@ pub cond_wait-with-another-mutex-waits-not :
 unfolding all_unlocked all_unawaited
 cond_wait-with-another-mutex-waits-not = refl
 
--- that the caller owns the mutex is looked at before which mutex it is
+-- whether the caller owns the mutex is looked at before which mutex it is
 pub cond_wait-looks-at-the-owner-first : effect_of one_waits 2 (CondWait 0 5) ≡ answers 4294967295
 unfolding all_unlocked all_unawaited
 cond_wait-looks-at-the-owner-first = refl
 
--- once nobody waits another mutex may be taken
+-- once no thread waits, another mutex may be used
 pub cond_wait-takes-another-mutex-later :
     condition_0 (then_call (then_call signalled 2 (Lock 5)) 2 (CondWait 0 5)) ≡ record { mutex = 5; queue = 2 ∷ [] }
 unfolding all_unlocked all_unawaited
@@ -178,12 +178,12 @@ cond_wait-with-mutex-64-is-invalid = refl
 
 -- signal.
 
--- with nobody waiting nothing happens
+-- if no thread waits, nothing happens
 pub signal-of-nobody-answers-0 : act all_readable opening 0 (Signal 0) ≡ (answers 0, opening)
 unfolding all_unlocked all_unawaited
 signal-of-nobody-answers-0 = refl
 
--- with the mutex free the thread owns it, and is woken
+-- if the mutex is free, the thread owns it, and is woken
 pub signal-with-a-free-mutex-wakes :
     effect_of one_waits 0 (Signal 0) ≡ record { fate = Returns 0 None; woken = 1 ∷ []; reported = None; created = None }
 unfolding all_unlocked all_unawaited
@@ -232,14 +232,14 @@ pub broadcast-empties-the-condition :
 unfolding all_unlocked all_unawaited
 broadcast-empties-the-condition = refl
 
--- with the mutex held by thread 0 all wait for it
+-- if thread 0 holds the mutex, all wait for it
 pub broadcast-of-a-held-mutex-queues-all :
     mutex_0 (then_call (then_call three_await 0 (Lock 0)) 0 (Broadcast 0))
     ≡ record { owner = Some 0; queue = 1 ∷ 2 ∷ 3 ∷ [] }
 unfolding all_unlocked all_unawaited
 broadcast-of-a-held-mutex-queues-all = refl
 
--- with nobody waiting nothing happens
+-- if no thread waits, nothing happens
 pub broadcast-to-nobody-answers-0 : act all_readable opening 0 (Broadcast 0) ≡ (answers 0, opening)
 unfolding all_unlocked all_unawaited
 broadcast-to-nobody-answers-0 = refl

@@ -1,4 +1,4 @@
--- Nobody is lost and nobody doubled: for each row, and for all calls.
+-- No call loses a thread or puts it in two places: for each row, and for all calls.
 use Rattle.std.proofs.Common.{◌≡◌, ℕ, ◌+◌, ◌<◌, ◌≤◌, Bool, true, false, List, length, nat_lt, nat_le, slice_index_or, slice_set, Option, Some, None, if◌then◌else◌, not, ◌&&◌, is_some, ◌==◌, ap, arith, refl, ltb-true}
 use Rattle.std.proofs.lemmas.Bool.{and_parts}
 use Rattle.guest_call.specs.Answers.{answer_esrch, answer_edeadlk}
@@ -19,15 +19,15 @@ use Rattle.guest_call.proofs.Counting.{places-nil, entering-returns, entering-en
 use Rattle.guest_call.proofs.Shape.{kept_shaped, condition_named}
 pub use Rattle.guest_call.proofs.Rows.{IsFairPair, lock_fair, trylock_fair, unlock_fair, sem_wait_fair, sem_trywait_fair, sem_post_fair, sem_init_fair, barrier_init_fair, barrier_wait_fair, cond_wait_fair, leave_fair, signal_leaves, broadcast_leaves, rdlock_fair, wrlock_fair, rwunlock_fair, trywrlock_fair}
 
--- a call that changes nothing and wakes nobody
+-- a call that changes nothing and wakes no thread
 pub same_keeps : (w : ℕ → ℕ) (t a : ℕ) → Keeps w t (answers a) w
 same_keeps w t a u = omega (arith, places-nil u, entering-returns t a None u)
 
--- what a call of thread t did to a table lost nobody of its queues and doubled nobody
+-- a call of thread t on a table lost no thread of its queues and put none in two places
 abbrev pub IsFairTable : {C : Type 0} → (C → List ℕ) → ℕ → List C → Effect × List C → Type 0
 IsFairTable queue t cells r = Keeps (waits queue cells) t r.0 (waits queue r.1)
 
--- a row done in a table, where it is fair at each object
+-- a row in a table, if it is fair at each object
 pub at_cell_keeps :
     {C : Type 0} (queue : C → List ℕ) (free : C) (row : C → Effect × C) (cells : List C) (i t : ℕ) → 64 ≤ length cells
     → ((c : C) → IsFair queue t c (row c)) →
@@ -58,7 +58,7 @@ thread_exit_fair t v members lt u =
       entering-ends t v u,
     )
 
--- what a join makes of the thread that it joins
+-- what a join does to the thread that it joins
 pub joins_fair : (t : ℕ) (value : Option ℕ) → (u : ℕ) →
     places u (waiting_joiner value (Some t)) + places u (joins value).woken
     ≡ places u (waiting_joiner value None) + entering t (joins value).fate u
@@ -89,14 +89,14 @@ join_fair t v members = by_tests (nat_lt v (length members)) (v == t) (member_at
     by_tests true false (Some u) lt is = same_keeps (waits member_queue members) t answer_einval
     by_tests true false None lt is = joined_fair t v members (ltb-true v (length members) lt) is
 
--- a row done on a mutex, where it is fair
+-- a row on a mutex, if it is fair
 pub on_mutex_keeps :
     (row : Mutex → Effect × Mutex) (t m : ℕ) (o : Objects) → ((c : Mutex) → IsFair mutex_queue t c (row c)) → IsKept o →
     Keeps (waits_at o) t (on_mutex row o m).0 (waits_at (on_mutex row o m).1)
 on_mutex_keeps row t m o fair kept u =
     omega (arith, at_cell_keeps mutex_queue unlocked row o.mutexes m t (omega (arith, kept.all_mutexes)) fair u)
 
--- a row done on a semaphore, where it is fair
+-- a row on a semaphore, if it is fair
 pub on_semaphore_keeps :
     (row : Semaphore → Effect × Semaphore) (t s : ℕ) (o : Objects)
     → ((c : Semaphore) → IsFair semaphore_queue t c (row c)) → IsKept o →
@@ -107,7 +107,7 @@ on_semaphore_keeps row t s o fair kept u =
       at_cell_keeps semaphore_queue unposted row o.semaphores s t (omega (arith, kept.all_semaphores)) fair u,
     )
 
--- a row done on a barrier, where it is fair
+-- a row on a barrier, if it is fair
 pub on_barrier_keeps :
     (row : Barrier → Effect × Barrier) (t b : ℕ) (o : Objects) → ((c : Barrier) → IsFair barrier_queue t c (row c))
     → IsKept o →
@@ -118,14 +118,14 @@ on_barrier_keeps row t b o fair kept u =
       at_cell_keeps barrier_queue uninitialised row o.barriers b t (omega (arith, kept.all_barriers)) fair u,
     )
 
--- a row done on a reader-writer lock, where it is fair
+-- a row on a reader-writer lock, if it is fair
 pub on_rwlock_keeps :
     (row : RwLock → Effect × RwLock) (t i : ℕ) (o : Objects) → ((c : RwLock) → IsFair rwlock_queue t c (row c)) → IsKept o →
     Keeps (waits_at o) t (on_rwlock row o i).0 (waits_at (on_rwlock row o i).1)
 on_rwlock_keeps row t i o fair kept u =
     omega (arith, at_cell_keeps rwlock_queue unheld row o.rwlocks i t (omega (arith, kept.all_rwlocks)) fair u)
 
--- a row done on a condition and a mutex that are there, where it is fair
+-- a row on a condition and a mutex that exist, if it is fair
 pub on_pair_keeps : (row : Condition → Mutex → Effect × Condition × Mutex) (t c m : ℕ) (o : Objects) → c < 64 → m < 64 →
     IsFairPair t (condition_at o c) (mutex_at o m) (row (condition_at o c) (mutex_at o m)) → IsKept o →
     Keeps (waits_at o) t (on_pair row o c m).0 (waits_at (on_pair row o c m).1)
@@ -138,7 +138,7 @@ on_pair_keeps row t c m o c_in m_in fair kept u =
       fair u,
     )
 
--- a call that is refused out of its range
+-- a call that is refused if its arguments are out of range
 pub checked_keeps :
     (b : Bool) (t : ℕ) (o : Objects) (r : Effect × Objects) → (b ≡ true → Keeps (waits_at o) t r.0 (waits_at r.1)) →
     Keeps (waits_at o) t (checked b o r).0 (waits_at (checked b o r).1)
@@ -153,7 +153,7 @@ cond_wait_keeps t c m o kept in_range =
     (ltb-true m 64 (and_parts (nat_lt c 64) (nat_lt m 64) in_range).1)
     (cond_wait_fair t m (condition_at o c) (mutex_at o m)) kept
 
--- threads that leave a condition, where they are some of those that waited
+-- threads that leave a condition, if they are some of those that waited
 pub leave_keeps : (leaving : Condition → Leaving) (t c : ℕ) (o : Objects) →
     ((x :
     Condition) (u : ℕ) → places u (leaving x).threads + places u (leaving x).rest.queue ≡ places u x.queue)
@@ -167,14 +167,14 @@ leave_keeps leaving t c o leaves kept =
     (condition_named o c (kept_shaped o kept) c_in)
     (leave_fair leaving t (condition_at o c) (mutex_at o (condition_at o c).mutex) leaves) kept)
 
--- a row done on the table of threads, where it is fair
+-- a row on the table of threads, if it is fair
 pub on_threads_keeps :
     (row : List Member → Effect × List Member) (t : ℕ) (o : Objects)
     → IsFairTable member_queue t o.threads (row o.threads) →
     Keeps (waits_at o) t (on_threads row o).0 (waits_at (on_threads row o).1)
 on_threads_keeps row t o fair u = omega (arith, fair u)
 
--- nobody is lost and nobody doubled by a call
+-- no call loses a thread or puts it in two places
 pub act_keeps : (readable : ℕ → ℕ → Bool) (o : Objects) (t : ℕ) (call : Call) → IsKept o → t < length o.threads →
     Keeps (waits_at o) t (act readable o t call).0 (waits_at (act readable o t call).1)
 act_keeps readable o t (Exit code) kept lt = λ u. omega (arith, places-nil u, entering-exits t code u)

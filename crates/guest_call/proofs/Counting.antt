@@ -1,4 +1,4 @@
--- Counting who waits: in one queue, in a table, and after one object of it has changed.
+-- How many threads wait: in one queue, in a table, and after one object of it has changed.
 use Rattle.std.proofs.Common.{◌≡◌, ℕ, ◌+◌, ◌<◌, ◌≤◌, ◌==◌, ◌≢◌, Bool, cond, List, [], ◌∷◌, ◌++◌, length, replicate, slice_index_or, slice_set, Option, arith, refl}
 use Rattle.std.proofs.lemmas.List.Sums.{sum_by-cons, sum_by-append, sum_by_push, sum_by-set, get_or-le-sum_by}
 use Rattle.std.proofs.lemmas.List.Folds.{sum_by-replicate}
@@ -41,7 +41,7 @@ pub entering-blocks : (t u : ℕ) → entering t Blocks u ≡ tally (t == u)
 unfolding entering
 entering-blocks t u = refl
 
--- nobody but the caller enters a queue
+-- no thread but the caller enters a queue
 pub entering-other : (t : ℕ) (f : Fate) (u : ℕ) → u ≢ t → entering t f u ≡ 0
 unfolding entering
 entering-other t f u other = grind arith
@@ -75,7 +75,7 @@ pub places-le-waits :
 unfolding waits
 places-le-waits queue cells i d t lt = get_or-le-sum_by (λ x. places t (queue x)) cells i d lt
 
--- in a table of copies of one object whose queue is empty nobody waits
+-- in a table of copies of one object whose queue is empty, no thread waits
 pub waits-replicate :
     {C : Type 0} (queue : C → List ℕ) (n : ℕ) (c : C) (t : ℕ) → queue c ≡ [] → waits queue (replicate n c) t ≡ 0
 unfolding waits places

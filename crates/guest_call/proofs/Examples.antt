@@ -21,7 +21,7 @@ none_readable p n = false
 abbrev pub then_call : Objects → ℕ → Call → Objects
 then_call o t call = (act all_readable o t call).1
 
--- what a call does, where every range may be read
+-- what a call does if every range may be read
 abbrev pub effect_of : Objects → ℕ → Call → Effect
 effect_of o t call = (act all_readable o t call).0
 
@@ -65,7 +65,7 @@ call-6-is-lock = refl
 pub call-8-is-unlock : call_of 8 9 5 ≡ Some (Unlock 9)
 call-8-is-unlock = refl
 
--- 22 and 2^32 - 1 stand in no line of the table
+-- 22 and 2^32 - 1 are in no row of the table
 pub call-22-is-bad : call_of 22 0 0 ≡ None
 call-22-is-bad = refl
 
@@ -74,7 +74,7 @@ call-4294967295-is-bad = refl
 
 -- exit and yield.
 
--- exit tells the whole of a0, also one above 255
+-- exit ends the run with the whole of a0, also above 255
 pub exit-tells-all-of-a0 :
     effect_of opening 0 (Exit 4294967295) ≡ record { fate = Exits 4294967295; woken = []; reported = None; created = None }
 exit-tells-all-of-a0 = refl
@@ -119,7 +119,7 @@ put-up-to-the-end-is-none = refl
 pub put-unreadable-is-a-fault : (act none_readable opening 0 (Put 65536 4)).0 ≡ answers 4294967282
 put-unreadable-is-a-fault = refl
 
--- put acts on the output where it appends, and there alone
+-- put acts on the output if it appends, and on nothing else
 pub put-acts-on-the-output : acts_on all_readable opening (Put 65568 3) ≡ object.Output ∷ []
 put-acts-on-the-output = refl
 
@@ -140,7 +140,7 @@ pub create-answers-1 :
     ≡ record { fate = Returns 1 None; woken = []; reported = None; created = Some (65536, 7) }
 create-answers-1 = refl
 
--- the next has number 2, whoever creates it
+-- the next has number 2, whichever thread creates it
 pub create-answers-2 :
     effect_of (then_call opening 0 (Create 65536 7)) 1 (Create 65540 8)
     ≡ record { fate = Returns 2 None; woken = []; reported = None; created = Some (65540, 8) }
@@ -167,7 +167,7 @@ create-at-an-odd-pc-is-invalid = refl
 pub create-at-an-odd-pc-comes-first : effect_of (created_times 31 opening) 0 (Create 65538 0) ≡ answers 4294967274
 create-at-an-odd-pc-comes-first = refl
 
--- create acts on the table of threads, also where it is full, but not where its pc is refused
+-- create acts on the table of threads, also if it is full, but not if its pc is refused
 pub create-acts-on-the-threads :
     acts_on all_readable (created_times 31 opening) (Create 65536 0) ≡ object.ThreadTable ∷ []
 create-acts-on-the-threads = refl
@@ -182,13 +182,13 @@ pub join-of-a-running-thread-blocks :
     effect_of four_threads 0 (Join 2) ≡ record { fate = Blocks; woken = []; reported = None; created = None }
 join-of-a-running-thread-blocks = refl
 
--- the end of a thread wakes its joiner and tells it the value
+-- the end of a thread wakes its joiner, which gets the value
 pub thread_exit-wakes-the-joiner :
     effect_of (then_call four_threads 0 (Join 2)) 2 (ThreadExit 51)
     ≡ record { fate = Ends 51; woken = 0 ∷ []; reported = Some 51; created = None }
 thread_exit-wakes-the-joiner = refl
 
--- the end of a thread that nobody joins wakes nobody
+-- the end of a thread without a joiner wakes no thread
 pub thread_exit-wakes-nobody : (effect_of (then_call four_threads 0 (Join 2)) 1 (ThreadExit 51)).woken ≡ []
 thread_exit-wakes-nobody = refl
 
@@ -202,7 +202,7 @@ join-of-an-ended-thread-tells-its-value = refl
 pub join-of-a-joined-thread-is-invalid : effect_of (then_call four_threads 0 (Join 2)) 1 (Join 2) ≡ answers 4294967274
 join-of-a-joined-thread-is-invalid = refl
 
--- and also after the thread has ended and the first was woken: a joiner is never forgotten
+-- and also after the thread has ended and the first was woken: a joiner is kept forever
 pub join-after-a-woken-joiner-is-invalid :
     effect_of (then_call (then_call four_threads 0 (Join 2)) 2 (ThreadExit 51)) 1 (Join 2) ≡ answers 4294967274
 join-after-a-woken-joiner-is-invalid = refl
@@ -228,7 +228,7 @@ join-of-no-thread-finds-none = refl
 pub join-of-no-thread-acts-on-the-threads : acts_on all_readable opening (Join 99) ≡ object.ThreadTable ∷ []
 join-of-no-thread-acts-on-the-threads = refl
 
--- two threads that join each other aren't found out: both wait
+-- two threads that join each other aren't detected: both wait
 pub join-in-a-circle-blocks : (effect_of (then_call four_threads 0 (Join 2)) 2 (Join 0)).fate ≡ Blocks
 join-in-a-circle-blocks = refl
 
@@ -277,7 +277,7 @@ lock-of-mutex-63-answers-0 = refl
 pub unlock-of-mutex-64-is-invalid : effect_of four_threads 1 (Unlock 64) ≡ answers 4294967274
 unlock-of-mutex-64-is-invalid = refl
 
--- unlock hands the mutex to the first who waits, and the others stay in order
+-- unlock hands the mutex over to the first thread that waits, and the others stay in order
 pub unlock-wakes-the-first :
     effect_of three_wait 1 (Unlock 3) ≡ record { fate = Returns 0 None; woken = 2 ∷ []; reported = None; created = None }
 unfolding all_unlocked
@@ -289,7 +289,7 @@ pub unlock-hands-over-to-the-first :
 unfolding all_unlocked
 unlock-hands-over-to-the-first = refl
 
--- with nobody waiting the mutex is free again
+-- if no thread waits, the mutex is free again
 pub unlock-frees : then_call (then_call four_threads 1 (Lock 3)) 1 (Unlock 3) ≡ four_threads
 unfolding all_unlocked
 unlock-frees = refl
@@ -299,7 +299,7 @@ pub unlock-of-a-free-mutex-is-not-permitted : act all_readable opening 0 (Unlock
 unfolding all_unlocked
 unlock-of-a-free-mutex-is-not-permitted = refl
 
--- nor one that another holds, also for who waits for it
+-- nor one that another holds, also for a thread that waits for it
 pub unlock-by-another-is-not-permitted : effect_of three_wait 2 (Unlock 3) ≡ answers 4294967295
 unfolding all_unlocked
 unlock-by-another-is-not-permitted = refl
@@ -311,7 +311,7 @@ pub thread_exit-keeps-its-mutexes :
 unfolding all_unlocked
 thread_exit-keeps-its-mutexes = refl
 
--- lock and unlock act on their mutex, where there is one
+-- lock and unlock act on their mutex, if there is one
 pub lock-acts-on-its-mutex : acts_on all_readable opening (Lock 63) ≡ object.Mutex 63 ∷ []
 lock-acts-on-its-mutex = refl
 

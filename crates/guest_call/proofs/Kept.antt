@@ -1,4 +1,4 @@
--- What each call keeps of the objects: their numbers, one place a thread at most, and who has ended.
+-- What each call keeps of the objects: how many there are, that a thread has one place at most, and which have ended.
 use Rattle.std.proofs.Common.{◌≡◌, ℕ, ◌+◌, ◌<◌, ◌≤◌, ◌≢◌, Bool, true, false, List, [], ◌∷◌, ◌++◌, length, nat_lt, slice_set, arith, refl, sym, ap, ◌∙◌, ltb-true, ltb-false, ⊎_elim}
 use Rattle.std.proofs.lemmas.Bool.{cases_eq}
 use Rattle.std.proofs.lemmas.Bool.Decides.{nat_tests}
@@ -19,7 +19,7 @@ use Rattle.guest_call.proofs.Conservation.{act_keeps}
 pub use Rattle.guest_call.proofs.Shape.{length-at_cell}
 use Rattle.guest_call.proofs.Shape.{IsShaped, kept_shaped, act_shaped, opening_shaped}
 
--- as many threads as before and as many more as are created, after each row on the table of threads
+-- as many threads as before, and those that are created, after each row on the table of threads
 pub length-create :
     (pc argument : ℕ) (members : List Member)
     → length (create_row pc argument members).1
@@ -35,7 +35,7 @@ pub length-join :
     → length (join_row t u members).1 ≡ length members + created_count (join_row t u members).0.created
 length-join t u members = grind (arith, length-set)
 
--- a call makes one thread more exactly where it says that one is created
+-- a call makes one more thread exactly if its effect creates one
 pub act_creates : (readable : ℕ → ℕ → Bool) (o : Objects) (t : ℕ) (call : Call) →
     length (act readable o t call).1.threads ≡ length o.threads + created_count (act readable o t call).0.created
 act_creates readable o t (Exit code) = omega arith
@@ -88,21 +88,21 @@ act_few readable o t (WrLock r) few = few
 act_few readable o t (RwUnlock r) few = few
 act_few readable o t (TryWrLock r) few = few
 
--- each thread still waits in at most one place, where the caller waited in none
+-- each thread still waits in at most one place, if the caller waited in none
 pub once_kept :
     (w after : ℕ → ℕ) (t : ℕ) (e : Effect) → Keeps w t e after → w t ≡ 0 → ((u : ℕ) → w u ≤ 1) → (u : ℕ) → after u ≤ 1
 once_kept w after t e keeps free once u =
     ⊎_elim (λ same. omega (arith, keeps u, entering-le t e.fate u, ap w same, free))
     (λ other. omega (arith, keeps u, entering-other t e.fate u other, once u)) (cases_eq u t)
 
--- a thread that isn't there still waits nowhere, where the caller is there
+-- a thread that doesn't exist still waits nowhere, if the caller exists
 pub known_kept :
     (w after : ℕ → ℕ) (t n : ℕ) (e : Effect) → Keeps w t e after → t < n → ((u : ℕ) → n ≤ u → w u ≡ 0) → (u : ℕ) → n ≤ u
     → after u ≡ 0
 known_kept w after t n e keeps there known u beyond =
     omega (arith, keeps u, entering-other t e.fate u (λ same. omega arith), known u beyond)
 
--- a call keeps what holds of the objects, where its caller is a thread that waits nowhere
+-- a call keeps the invariant of the objects, if its caller is a thread that waits nowhere
 pub act_kept :
     (readable : ℕ → ℕ → Bool) (o : Objects) (t : ℕ) (call : Call) → IsKept o → t < length o.threads → waits_at o t ≡ 0
     → IsKept (act readable o t call).1
@@ -138,7 +138,7 @@ opening_waits t =
       places-nil t,
     )
 
--- what holds of the objects holds at the start
+-- the invariant of the objects holds at the start
 pub opening_kept : IsKept opening
 opening_kept = record {
   some_thread = omega arith;
@@ -153,7 +153,7 @@ opening_kept = record {
   known = λ t beyond. opening_waits t;
 }
 
--- who has ended, after a fresh thread was added: as before
+-- which threads have ended, after a fresh thread was added: as before
 pub value-push :
     (members : List Member) (u : ℕ) → (member_at (members ++ fresh ∷ []) u).value ≡ (member_at members u).value
 value-push members u = by_order (nat_lt u (length members)) refl
@@ -220,7 +220,7 @@ pub thread_exit_ended : (t v : ℕ) (members : List Member) → t < length membe
     ≡ ended_after t (thread_exit_row t v members).0.fate u (member_at members u).value
 thread_exit_ended t v members there u = grind (arith, get_or-set_same, get_or-set_other, cases_eq u t)
 
--- who has ended after a call: who had, and the caller where it ends
+-- which threads have ended after a call: those of before, and the caller if it ends
 pub act_ended : (readable : ℕ → ℕ → Bool) (o : Objects) (t : ℕ) (call : Call) → t < length o.threads → (u : ℕ) →
     ended_at (act readable o t call).1 u ≡ ended_after t (act readable o t call).0.fate u (ended_at o u)
 act_ended readable o t (Exit code) there u = refl
@@ -246,6 +246,6 @@ act_ended readable o t (WrLock r) there u = grind arith
 act_ended readable o t (RwUnlock r) there u = grind arith
 act_ended readable o t (TryWrLock r) there u = grind arith
 
--- where put appends its bytes it answers how many they are
+-- if put appends its bytes, it answers how many they are
 pub put_answer-appends : (readable : ℕ → ℕ → Bool) (p n : ℕ) → appends readable p n ≡ true → put_answer readable p n ≡ n
 put_answer-appends readable p n is = grind arith

@@ -17,7 +17,7 @@ nothing_local e objects o = record {
   same_parts = λ other kept alike. alike;
 }
 
--- a change looks at no more than a state, from which its effect and the new parts of its objects follow, and leaves all
+-- a change looks only at a state, which determines its effect and the new parts of its objects, and it keeps all
 -- others
 pub record IsSeenBy {S : Type 0} (look : Objects → S) (effect : S → Effect) (new : S → Object → Part)
     (objects : List Object) (change : Objects → Effect × Objects) (o : Objects) : Type 0 where
@@ -42,8 +42,8 @@ seen_local look effect new objects change o kept seen = record {
       ∙ sym (seen.writes o kept p among);
 }
 
--- a change that names its objects by the state is local, where it does what a local change does whenever these objects
--- stand alike
+-- a change that names its objects by the state is local, if it does what a local change does whenever these objects
+-- are alike
 pub like_local :
     (change like : Objects → Effect × Objects) (objects : Objects → List Object) (named : List Object) (o : Objects)
     → objects o ≡ named →
@@ -71,7 +71,7 @@ like_local change like objects named o named_o names does local = record {
     at_o : change o ≡ like o
     at_o = does o (λ p among. refl)
 
--- a change that is refused out of its range acts on nothing then
+-- a change that is refused if its arguments are out of range, and then acts on nothing
 pub checked_local :
     (a b : Bool) (change : Objects → Effect × Objects) (q : Object) (o : Objects) → IsLocalBy change (λ x. one_of a q) o
     →
@@ -81,7 +81,7 @@ checked_local true false change q o local = nothing_local (answers answer_einval
 checked_local false true change q o local = local
 checked_local false false change q o local = nothing_local (answers answer_einval) [] o
 
--- two names that are of one object are one
+-- two names of one object are the same
 pub same_is : (p q : Object) → same_object p q ≡ true → p ≡ q
 same_is Output Output is = refl
 same_is ThreadTable ThreadTable is = refl
@@ -92,6 +92,6 @@ same_is (ConditionOf k) (ConditionOf m) is = ap ConditionOf (grind arith)
 same_is (RwLockOf k) (RwLockOf m) is = ap RwLockOf (grind arith)
 same_is _ _ is = absurd (true≢false (sym is))
 
--- what is among one object is that object
+-- an object among one is that one
 pub among_one : (p q : Object) → is_among p (q ∷ []) ≡ true → p ≡ q
 among_one p q among = same_is p q (grind arith)

@@ -10,12 +10,12 @@ use Rattle.guest_call.specs.Objects.{Objects, on_mutex, one_of, IsKept}
 use Rattle.guest_call.specs.Locality.{MutexPart, part_of, is_among, IsLocalBy}
 use Rattle.guest_call.proofs.Locality.{nothing_local, seen_local, among_one}
 
--- a row on the mutex of number i, done where it is there
+-- a row on mutex i, if there is one
 abbrev pub mutex_done : (Mutex → Effect × Mutex) → ℕ → Objects → Effect × Objects
 mutex_done row i o =
     let r = row (slice_index_or o.mutexes i unlocked) in (r.0, record o { mutexes = slice_set o.mutexes i r.1 })
 
--- a row on a mutex that is there
+-- a row on a mutex that exists
 pub mutex_local :
     (row : Mutex → Effect × Mutex) (i : ℕ) (o : Objects) → i < 64 → IsKept o
     → IsLocalBy (mutex_done row i) (λ x. MutexOf i ∷ []) o

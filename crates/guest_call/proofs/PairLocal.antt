@@ -1,5 +1,5 @@
--- A row on a condition and a mutex reads and changes nothing but these, and who leaves a condition touches no mutex
--- where nobody waits.
+-- A row on a condition and a mutex reads and changes only these, and threads that leave a condition touch no mutex
+-- if none waits.
 use Rattle.std.proofs.Common.{◌≡◌, ℕ, ◌<◌, ◌==◌, Bool, true, false, not, ◌&&◌, List, [], ◌∷◌, length, None, nat_lt, slice_set, if◌then◌else◌, arith, refl, sym, ap, ◌∙◌, ltb-true, true≢false}
 use Rattle.std.proofs.lemmas.Bool.{and_parts}
 use Rattle.std.proofs.lemmas.List.{get_or-set_same, get_or-set_other, set-get_or}
@@ -25,7 +25,7 @@ pair_part c x (BarrierOf b) = NoPart
 pair_part c x (ConditionOf d) = ConditionPart c
 pair_part c x (RwLockOf r) = NoPart
 
--- a row on a condition and a mutex that are there
+-- a row on a condition and a mutex that exist
 pub pair_local :
     (row : Condition → Mutex → Effect × Condition × Mutex) (c m : ℕ) (o : Objects) → c < 64 → m < 64 → IsKept o →
     IsLocalBy (λ x. on_pair row x c m) (λ x. ConditionOf c ∷ MutexOf m ∷ []) o
@@ -90,7 +90,7 @@ cond_wait_local t c m o kept = by_range (nat_lt c 64 && nat_lt m 64) refl
         pair_local (cond_wait_row t m) c m o (ltb-true c 64 parts.0) (ltb-true m 64 parts.1) kept
     by_range false is = nothing_local (answers answer_einval) [] o
 
--- where nobody waits, nobody leaves and the condition stays
+-- if no thread waits, none leaves and the condition stays
 abbrev pub IsQuiet : (Condition → Leaving) → Type 0
 IsQuiet leaving = (c : Condition) → length c.queue ≡ 0 → leaving c ≡ record { threads = []; rest = c }
 
@@ -113,7 +113,7 @@ broadcast_quiet c none =
     ap (λ (q : List ℕ). record { threads = q; rest = record { mutex = c.mutex; queue = [] } }) empty
     ∙ sym (ap (λ (q : List ℕ). record { threads = []; rest = record { mutex = c.mutex; queue = q } }) empty)
 
--- what a signal or a broadcast does where nobody waits: the condition and its mutex are written as they are
+-- what a signal or a broadcast does if no thread waits: the condition and its mutex are written as they are
 pub quiet_leave :
     (leaving : Condition → Leaving) (c : ℕ) (o : Objects) → IsQuiet leaving → length (condition_at o c).queue ≡ 0 →
     on_pair (leave_row leaving) o c (condition_at o c).mutex ≡ (answers 0, o)
@@ -133,11 +133,11 @@ quiet_leave leaving c o quiet none =
     (set-get_or o.mutexes m unlocked)
     ∙ ap (λ (xs : List Condition). (answers 0, record o { conditions = xs })) (set-get_or o.conditions c unawaited)
 
--- the objects of a signal at a condition that stands so
+-- the objects of a signal at a condition with this queue
 abbrev pub waiting_objects : ℕ → Condition → List Object
 waiting_objects c d = ConditionOf c ∷ one_of (not (length d.queue == 0)) (MutexOf d.mutex)
 
--- a signal or a broadcast at a condition that is there, by whether somebody waits for it
+-- a signal or a broadcast at a condition that exists, by whether a thread waits for it
 pub leave_there : (leaving : Condition → Leaving) (c : ℕ) (o : Objects) → IsQuiet leaving → c < 64 → IsKept o →
     IsLocalBy (λ x. on_pair (leave_row leaving) x c (condition_at x c).mutex)
     (λ x. waiting_objects c (condition_at x c)) o

@@ -1,4 +1,4 @@
--- Each row on one object loses nobody of its queue and doubles nobody.
+-- No row on one object loses a thread of its queue or puts it in two places.
 use Rattle.std.proofs.Common.{◌≡◌, ℕ, ◌+◌, ◌==◌, List, [], ◌∷◌, ◌++◌, length, Option, Some, None, arith}
 use Rattle.std.proofs.lemmas.List.{map-append}
 use Rattle.guest_call.specs.Effect.{Effect}
@@ -48,7 +48,7 @@ comes_fair t (Some n) q u = grind (arith, places-nil, places-push, entering-retu
 pub barrier_wait_fair : (t : ℕ) (c : Barrier) → IsFair barrier_queue t c (barrier_wait_row t c)
 barrier_wait_fair t c = comes_fair t c.count c.queue
 
--- what a row of thread t did to a condition and a mutex lost nobody of their queues and doubled nobody
+-- a row of thread t on a condition and a mutex lost no thread of their queues and put none in two places
 abbrev pub IsFairPair : ℕ → Condition → Mutex → Effect × Condition × Mutex → Type 0
 IsFairPair t c x r =
     (u :
@@ -56,7 +56,7 @@ IsFairPair t c x r =
     → places u r.1.queue + places u r.2.queue + places u r.0.woken
     ≡ places u c.queue + places u x.queue + entering t r.0.fate u
 
--- a mutex that is handed over
+-- a mutex that is handed over to the first thread that waits
 pub handed_places : (u : ℕ) (q : List ℕ) → places u (handed_over q).0 + places u (handed_over q).1.queue ≡ places u q
 handed_places u [] = omega (arith, places-nil u)
 handed_places u (v ∷ q) = omega (arith, places-nil u, places-cons u v q, places-cons u v [])
@@ -92,7 +92,7 @@ pub leave_fair : (leaving : Condition → Leaving) (t : ℕ) (c : Condition) (x 
 leave_fair leaving t c x leaves u =
     omega (arith, leaves c u, admit_each_places u (leaving c).threads x, entering-returns t 0 None u)
 
--- who leaves by a signal or stays has waited, and nobody else
+-- the first that leaves by a signal, and those that stay, are all that waited
 pub first_leaves_places :
     (m u : ℕ) (q : List ℕ) → places u (first_leaves m q).threads + places u (first_leaves m q).rest.queue ≡ places u q
 first_leaves_places m u [] = omega (arith, places-nil u)
@@ -109,7 +109,7 @@ pub broadcast_leaves :
     → places u (broadcast_leaving c).threads + places u (broadcast_leaving c).rest.queue ≡ places u c.queue
 broadcast_leaves c u = omega (arith, places-nil u)
 
--- one more who waits for a lock
+-- one more thread that waits for a lock
 pub places-awaited :
     (u : ℕ) (q : List Waiter) (w : Waiter)
     → places u (threads_of (q ++ w ∷ [])) ≡ places u (threads_of q) + tally (w.thread == u)
@@ -124,7 +124,7 @@ wrlock_fair t c u = grind (arith, places-nil, places-awaited, entering-returns, 
 pub trywrlock_fair : (t : ℕ) (c : RwLock) → IsFair rwlock_queue t c (trywrlock_row t c)
 trywrlock_fair t c u = grind (arith, places-nil, entering-returns)
 
--- who waits to read before the first who wants to write, and who waits from there on, are all who wait
+-- the threads that wait to read before the first that waits to write, and those from there on, are all that wait
 pub first_readers_places :
     (u : ℕ) (q : List Waiter)
     → places u (first_readers q) + places u (threads_of (from_first_writer q)) ≡ places u (threads_of q)
@@ -141,7 +141,7 @@ pub writer_admitted_places :
     → places u (writer_admitted c).0 + places u (rwlock_queue (writer_admitted c).1) ≡ places u (rwlock_queue c)
 writer_admitted_places u c = grind (arith, places-nil, places-cons)
 
--- who gets a lock that is handed on has waited for it
+-- a thread that gets a lock that is handed on has waited for it
 pub handed_on_places :
     (u : ℕ) (c : RwLock) → places u (handed_on c).0 + places u (rwlock_queue (handed_on c).1) ≡ places u (rwlock_queue c)
 handed_on_places u c =

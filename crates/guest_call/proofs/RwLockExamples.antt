@@ -8,7 +8,7 @@ use Rattle.guest_call.specs.RwLocks.{RwLock, no_readers, unheld, reads, rwlock_q
 use Rattle.guest_call.specs.Objects.{Objects, all_unheld, opening, act, acts_on}
 use Rattle.guest_call.proofs.Examples.{all_readable, effect_of, four_threads, then_call}
 
--- how lock 3 stands
+-- the state of lock 3
 abbrev pub third : Objects → RwLock
 third o = slice_index_or o.rwlocks 3 unheld
 
@@ -24,7 +24,7 @@ two_read = then_call (then_call four_threads 0 (RdLock 3)) 1 (RdLock 3)
 abbrev pub two_wait : Objects
 two_wait = then_call (then_call two_read 2 (WrLock 3)) 3 (RdLock 3)
 
--- both let go, so thread 2 writes, and thread 3 still waits to read
+-- both release it, so thread 2 writes, and thread 3 still waits to read
 abbrev pub one_writes : Objects
 one_writes = then_call (then_call two_wait 0 (RwUnlock 3)) 1 (RwUnlock 3)
 
@@ -35,7 +35,7 @@ readers_wait =
 
 -- rdlock.
 
--- at a lock that nobody holds, and beside another reader
+-- at a lock that no thread holds, and beside another reader
 pub rdlock-answers-0 : effect_of four_threads 0 (RdLock 3) ≡ answers 0
 unfolding all_unheld no_readers
 rdlock-answers-0 = refl
@@ -109,7 +109,7 @@ wrlock-of-lock-64-is-invalid = refl
 
 -- rwunlock.
 
--- one reader of two: nobody is let in, and the other reads on
+-- one reader of two: no thread is let in, and the other still reads
 pub rwunlock-by-one-of-two-lets-nobody-in : effect_of two_wait 0 (RwUnlock 3) ≡ answers 0
 unfolding all_unheld no_readers
 rwunlock-by-one-of-two-lets-nobody-in = refl
@@ -118,7 +118,7 @@ pub rwunlock-by-one-of-two-leaves-the-other : reads (third (then_call two_wait 0
 unfolding all_unheld no_readers
 rwunlock-by-one-of-two-leaves-the-other = refl
 
--- the last reader: the writer that waits first is let in, and nobody else
+-- the last reader: the writer that waits first is let in, and no other thread
 pub rwunlock-by-the-last-reader-lets-the-writer-in :
     effect_of (then_call two_wait 0 (RwUnlock 3)) 1 (RwUnlock 3) ≡ lets_in (2 ∷ [])
 unfolding all_unheld no_readers
@@ -128,7 +128,7 @@ pub rwunlock-makes-the-writer : (third one_writes).writer ≡ Some 2
 unfolding all_unheld no_readers
 rwunlock-makes-the-writer = refl
 
--- the writer: each reader before the next who wants to write is let in, and the writer behind them waits on
+-- the writer: each reader before the next that waits to write is let in, and the writer behind them still waits
 pub rwunlock-by-the-writer-lets-all-readers-in : effect_of readers_wait 0 (RwUnlock 3) ≡ lets_in (1 ∷ 2 ∷ [])
 unfolding all_unheld no_readers
 rwunlock-by-the-writer-lets-all-readers-in = refl
@@ -138,12 +138,12 @@ pub rwunlock-by-the-writer-leaves-a-writer-waiting :
 unfolding all_unheld no_readers
 rwunlock-by-the-writer-leaves-a-writer-waiting = refl
 
--- with nobody waiting, nobody holds it then
+-- if no thread waits, none holds the lock then
 pub rwunlock-with-nobody-waiting-frees-it : third (then_call (then_call four_threads 0 (WrLock 3)) 0 (RwUnlock 3)) ≡ unheld
 unfolding all_unheld no_readers
 rwunlock-with-nobody-waiting-frees-it = refl
 
--- by who doesn't hold it: EPERM is 1 and 2^32 - 1 is 4294967295
+-- by a thread that doesn't hold it: EPERM is 1 and 2^32 - 1 is 4294967295
 pub rwunlock-by-another-is-refused : effect_of two_wait 3 (RwUnlock 3) ≡ answers 4294967295
 unfolding all_unheld no_readers
 rwunlock-by-another-is-refused = refl
@@ -161,7 +161,7 @@ pub trywrlock-makes-the-writer : (third (then_call four_threads 0 (TryWrLock 3))
 unfolding all_unheld no_readers
 trywrlock-makes-the-writer = refl
 
--- by anybody, where a writer or a reader holds it: EBUSY is 16 and 2^32 - 16 is 4294967280
+-- by any thread, if a writer or a reader holds it: EBUSY is 16 and 2^32 - 16 is 4294967280
 pub trywrlock-beside-readers-is-busy : effect_of two_read 2 (TryWrLock 3) ≡ answers 4294967280
 unfolding all_unheld no_readers
 trywrlock-beside-readers-is-busy = refl
@@ -177,7 +177,7 @@ trywrlock-by-the-writer-is-busy = refl
 pub trywrlock-of-lock-64-is-invalid : act all_readable four_threads 1 (TryWrLock 64) ≡ (answers 4294967274, four_threads)
 trywrlock-of-lock-64-is-invalid = refl
 
--- What they act on: their lock, in each case where its number is in range.
+-- What they act on: their lock, in each case in which its number is in range.
 
 pub rdlock-acts-on-its-lock : acts_on all_readable opening (RdLock 63) ≡ object.RwLock 63 ∷ []
 rdlock-acts-on-its-lock = refl

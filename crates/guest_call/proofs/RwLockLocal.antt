@@ -10,13 +10,13 @@ use Rattle.guest_call.specs.Objects.{Objects, on_rwlock, one_of, IsKept}
 use Rattle.guest_call.specs.Locality.{RwLockPart, part_of, is_among, IsLocalBy}
 use Rattle.guest_call.proofs.Locality.{nothing_local, seen_local, among_one}
 
--- a row on the reader-writer lock of number i, done where it is there
+-- a row on reader-writer lock i, if there is one
 abbrev pub rwlock_done : (RwLock → Effect × RwLock) → ℕ → Objects → Effect × Objects
 rwlock_done row i o =
     let r = row (slice_index_or o.rwlocks i unheld) in
     (r.0, record o { rwlocks = slice_set o.rwlocks i r.1 })
 
--- a row on a reader-writer lock that is there
+-- a row on a reader-writer lock that exists
 pub rwlock_local :
     (row : RwLock → Effect × RwLock) (i : ℕ) (o : Objects) → i < 64 → IsKept o
     → IsLocalBy (rwlock_done row i) (λ x. RwLockOf i ∷ []) o

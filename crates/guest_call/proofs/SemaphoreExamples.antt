@@ -8,7 +8,7 @@ use Rattle.guest_call.specs.Semaphores.{Semaphore, unposted}
 use Rattle.guest_call.specs.Objects.{Objects, all_unposted, opening, act, acts_on}
 use Rattle.guest_call.proofs.Examples.{all_readable, effect_of, four_threads, then_call}
 
--- how semaphore 3 stands
+-- the state of semaphore 3
 abbrev pub third : Objects → Semaphore
 third o = slice_index_or o.semaphores 3 unposted
 
@@ -31,7 +31,7 @@ pub sem_init-sets-the-value : third at_two ≡ record { value = 2; queue = [] }
 unfolding all_unposted
 sem_init-sets-the-value = refl
 
--- again while nobody waits
+-- again while no thread waits
 pub sem_init-again-sets-the-value : third (then_call at_two 1 (SemInit 3 0)) ≡ record { value = 0; queue = [] }
 unfolding all_unposted
 sem_init-again-sets-the-value = refl
@@ -51,7 +51,7 @@ pub sem_init-of-semaphore-64-is-invalid :
     act all_readable four_threads 0 (SemInit 64 2) ≡ (answers 4294967274, four_threads)
 sem_init-of-semaphore-64-is-invalid = refl
 
--- while somebody waits: EBUSY is 16 and 2^32 - 16 is 4294967280, and nothing changes
+-- while a thread waits: EBUSY is 16 and 2^32 - 16 is 4294967280, and nothing changes
 pub sem_init-while-somebody-waits-is-busy : effect_of two_wait 0 (SemInit 3 2) ≡ answers 4294967280
 unfolding all_unposted
 sem_init-while-somebody-waits-is-busy = refl
@@ -119,7 +119,7 @@ sem_trywait-of-semaphore-64-is-invalid = refl
 
 -- sem_post.
 
--- with nobody waiting the value goes up by one
+-- if no thread waits, the value goes up by one
 pub sem_post-answers-0 : effect_of at_two 1 (SemPost 3) ≡ answers 0
 unfolding all_unposted
 sem_post-answers-0 = refl
@@ -128,7 +128,7 @@ pub sem_post-adds-one : third (then_call at_two 1 (SemPost 3)) ≡ record { valu
 unfolding all_unposted
 sem_post-adds-one = refl
 
--- with somebody waiting the first is woken, and the value stays
+-- if a thread waits, the first is woken, and the value stays
 pub sem_post-wakes-the-first :
     effect_of two_wait 0 (SemPost 3) ≡ record { fate = Returns 0 None; woken = 1 ∷ []; reported = None; created = None }
 unfolding all_unposted
@@ -138,7 +138,7 @@ pub sem_post-keeps-the-value : third (then_call two_wait 0 (SemPost 3)) ≡ reco
 unfolding all_unposted
 sem_post-keeps-the-value = refl
 
--- up to the largest value it goes
+-- the value goes up to the largest one
 pub sem_post-below-the-largest-answers-0 :
     effect_of (then_call four_threads 0 (SemInit 3 2147483646)) 1 (SemPost 3) ≡ answers 0
 unfolding all_unposted
@@ -160,7 +160,7 @@ pub sem_post-of-semaphore-64-is-invalid :
     act all_readable four_threads 1 (SemPost 64) ≡ (answers 4294967274, four_threads)
 sem_post-of-semaphore-64-is-invalid = refl
 
--- What they act on: their semaphore, where the arguments are in range.
+-- What they act on: their semaphore, if the arguments are in range.
 
 pub sem_wait-acts-on-its-semaphore : acts_on all_readable opening (SemWait 63) ≡ object.Semaphore 63 ∷ []
 sem_wait-acts-on-its-semaphore = refl

@@ -10,13 +10,13 @@ use Rattle.guest_call.specs.Objects.{Objects, on_semaphore, one_of, IsKept}
 use Rattle.guest_call.specs.Locality.{SemaphorePart, part_of, is_among, IsLocalBy}
 use Rattle.guest_call.proofs.Locality.{nothing_local, seen_local, among_one}
 
--- a row on the semaphore of number i, done where it is there
+-- a row on semaphore i, if there is one
 abbrev pub semaphore_done : (Semaphore → Effect × Semaphore) → ℕ → Objects → Effect × Objects
 semaphore_done row i o =
     let r = row (slice_index_or o.semaphores i unposted) in
     (r.0, record o { semaphores = slice_set o.semaphores i r.1 })
 
--- a row on a semaphore that is there
+-- a row on a semaphore that exists
 pub semaphore_local :
     (row : Semaphore → Effect × Semaphore) (i : ℕ) (o : Objects) → i < 64 → IsKept o
     → IsLocalBy (semaphore_done row i) (λ x. SemaphoreOf i ∷ []) o

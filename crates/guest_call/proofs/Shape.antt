@@ -98,7 +98,7 @@ on_rwlock_shaped row i o shaped = record {
   named = shaped.named;
 }
 
--- a row on a condition and a mutex, where the condition that it leaves names a mutex that is there
+-- a row on a condition and a mutex, if the condition then names a mutex that exists
 pub on_pair_shaped :
     (row : Condition → Mutex → Effect × Condition × Mutex) (c m : ℕ) (o : Objects)
     → IsNamed (row (condition_at o c) (mutex_at o m)).1 → IsShaped o →
@@ -114,14 +114,14 @@ on_pair_shaped row c m o named shaped =
       named = All-set IsNamed o.conditions c r.1 named shaped.named;
     }
 
--- a call that is refused out of its range
+-- a call that is refused if its arguments are out of range
 pub checked_shaped :
     (b : Bool) (o : Objects) (r : Effect × Objects) → IsShaped o → (b ≡ true → IsShaped r.1)
     → IsShaped (checked b o r).1
 checked_shaped true o r shaped done = done refl
 checked_shaped false o r shaped done = shaped
 
--- the mutex of a condition is there
+-- the mutex of a condition exists
 pub condition_named : (o : Objects) (c : ℕ) → IsShaped o → c < 64 → IsNamed (condition_at o c)
 condition_named o c shaped c_in =
     All-get_or IsNamed o.conditions c unawaited (omega (arith, shaped.all_conditions)) shaped.named
@@ -138,7 +138,7 @@ cond_wait_shaped t c m o shaped in_range =
     (cond_wait_named t m (condition_at o c) (mutex_at o m) (condition_named o c shaped (ltb-true c 64 parts.0))
     (ltb-true m 64 parts.1)) shaped
 
--- a signal leaves the condition its mutex
+-- a signal keeps the condition's mutex
 pub first_leaves_mutex : (m : ℕ) (q : List ℕ) → (first_leaves m q).rest.mutex ≡ m
 first_leaves_mutex m [] = refl
 first_leaves_mutex m (u ∷ q) = refl

@@ -7,7 +7,7 @@ use Rattle.edit_spec.specs.Editing.{is_out_of_range}
 use Rattle.guest_gen.specs.declared.TheConstants.{INPUT_BYTES}
 use Rattle.guest_gen.specs.Generated.{value_after, values_after, highest_byte, input_of, place_of, byte_of, edit_of, next_of}
 
--- so many values are made
+-- how many values are made
 length-values_after : (count value : ℕ) → length (values_after count value) ≡ count
 unfolding values_after
 length-values_after zero value = refl
@@ -16,11 +16,11 @@ length-values_after (suc count) value = ap (λ (n : ℕ). suc n) (length-values_
 pub length-input_of : (number : ℕ) → length (input_of number) ≡ INPUT_BYTES
 length-input_of number = length-map (values_after INPUT_BYTES number) highest_byte ∙ length-values_after INPUT_BYTES number
 
--- the byte that is edited is there
+-- the edited byte exists
 pub place-inside : (number : ℕ) → place_of number < length (input_of number)
 place-inside number = let count = length-input_of number in omega arith
 
--- a byte written over another leaves the length
+-- a byte written over another keeps the length
 length-written :
     (place byte : ℕ) (input : List ℕ) → place < length input
     → length (take place input ++ byte ∷ [] ++ drop (place + 1) input) ≡ length input
@@ -30,11 +30,11 @@ pub length-next_of : (number : ℕ) → length (next_of number) ≡ INPUT_BYTES
 length-next_of number =
     length-written (place_of number) (byte_of number) (input_of number) (place-inside number) ∙ length-input_of number
 
--- the edit passes no bound
+-- the edit is within its bounds
 pub edit-in_range : (number : ℕ) → is_out_of_range (edit_of number) (length (input_of number)) ≡ false
 edit-in_range number = let inside = place-inside number in grind (arith, nat_tests)
 
--- the first of some values, and those behind it
+-- the first of some values, and those after it
 first_value :
     (count value : ℕ)
     → map highest_byte (values_after (suc count) value)
@@ -42,7 +42,7 @@ first_value :
 unfolding values_after
 first_value count value = refl
 
--- one byte more was made
+-- one more byte was made
 pub one_byte_more :
     (left value : ℕ) (made whole : List ℕ) → 0 < left → made ++ map highest_byte (values_after left value) ≡ whole
     → (made ++ highest_byte (value_after value) ∷ []) ++ map highest_byte (values_after (left - 1) (value_after value))
@@ -65,7 +65,7 @@ byte_made count n value next byte made after whole more is top pushed e =
     let left : 0 < count - n = omega arith in
     rw (pushed, top, is, fewer) (one_byte_more (count - n) value made whole left e)
 
--- no byte is left to make
+-- no byte remains to be made
 none_left : (value : ℕ) (made : List ℕ) → made ++ map highest_byte (values_after 0 value) ≡ made
 unfolding values_after
 none_left value made = append-nil made

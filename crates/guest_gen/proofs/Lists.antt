@@ -1,4 +1,4 @@
--- The list of edits of a number says its edit.
+-- The list of edits of a number encodes its edit.
 use Rattle.std.proofs.Common.{◌≡◌, ℕ, ◌<◌, ◌/◌, ◌%◌, ◌==◌, true, false, List, [], ◌∷◌, ◌++◌, All, Some, Ok, refl, sym, ap, subst, inl, inr, lit<, arith}
 use Rattle.std.specs.Prelude.{decimal, slice_index}
 use Rattle.std.specs.Str.{all_ascii_digits}

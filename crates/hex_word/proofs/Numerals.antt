@@ -16,7 +16,7 @@ both false b h = cc
 digit_fits : (c : ℕ) → is_word_digit c ≡ true → digit_value c < 16
 digit_fits c h = grind (arith, nat_tests, h)
 
--- and no plus
+-- and no plus sign
 digit_is_no_plus : (c : ℕ) → is_word_digit c ≡ true → (c == 43) ≡ false
 digit_is_no_plus c h = grind (arith, nat_tests, h)
 
@@ -25,12 +25,12 @@ all_fit : (ds : List ℕ) → list_all is_word_digit ds ≡ true → AllDigits 1
 all_fit [] h = tt
 all_fit (d ∷ ds) h = let b = both (is_word_digit d) (list_all is_word_digit ds) h in (digit_fits d b.0, all_fit ds b.1)
 
--- digits have no plus before them
+-- digits have no plus sign before them
 same_without_plus : (ds : List ℕ) → list_all is_word_digit ds ≡ true → without_leading_plus ds ≡ ds
 same_without_plus [] h = refl
 same_without_plus (d ∷ ds) h = rw (digit_is_no_plus d (both (is_word_digit d) (list_all is_word_digit ds) h).0) refl
 
--- eight digits write a number below 2 ^ 32
+-- eight digits encode a number below 2 ^ 32
 eight_fit : (ds : List ℕ) → length ds ≡ 8 → AllDigits 16 ds → digits_value 16 ds < 2 ^ 32
 eight_fit (a ∷ b ∷ c ∷ d ∷ e ∷ f ∷ g ∷ h ∷ []) count (fa, (fb, (fc, (fd, (fe, (ff, (fg, (fh, _)))))))) = omega arith
 eight_fit _ count fits = absurd (omega arith)

@@ -1,4 +1,4 @@
--- Who asks where a record may be applied, and what the call is that it asks for.
+-- Whether a record may be applied, and which call it requests.
 use Rattle.std.proofs.Common.{◌≡◌, ◌<◌, ℕ, true, Some, length, sym, ap, subst, ◌∙◌}
 use Rattle.std.proofs.lemmas.Bool.{and_parts}
 use Rattle.std.specs.Prelude.{List}
@@ -43,7 +43,7 @@ acts-free m r o t whole can same is =
     ap (λ u. waits_at o u) is ∙ ap (λ (p : Objects). waits_at p r.thread) same
     ∙ free m.objects m.harts r.thread whole.tied (ready m r can)
 
--- What is known where the call of a record is done: the objects and the page map that it is done with, which are those
+-- What is known while the call of a record is performed: its objects and page map, which are those
 -- of the machine, its thread and the call.
 pub record IsCalled (m : Machine) (r : Record) (o : Objects) (map : List Mapped) (t : ℕ) (call : Call) : Type 0 where
   pub objects : o ≡ m.objects
@@ -51,14 +51,14 @@ pub record IsCalled (m : Machine) (r : Record) (o : Objects) (map : List Mapped)
   pub thread : t ≡ r.thread
   pub asks : call_in (ask_of r) ≡ Some call
 
--- a call that is asked for is done, on its objects
+-- a requested call acts on its objects
 acted-call :
     (m : Machine) (t : ℕ) (a : Asked) (call : Call) → call_in a ≡ Some call
     → acted m t a ≡ act (is_readable m.frame.map) m.objects t call
 acted-call m t (Asks c) call is = let same : c ≡ call = cc in ap (act (is_readable m.frame.map) m.objects t) same
 acted-call m t (Stops e) call is = cc
 
--- it is what was asked
+-- it does what was requested
 called-acts :
     (m : Machine) (r : Record) (o : Objects) (map : List Mapped) (t : ℕ) (call : Call)
     → IsCalled m r o map t call → act (is_readable map) o t call ≡ acted m r.thread (ask_of r)
@@ -68,7 +68,7 @@ called-acts m r o map t call is =
     ∙ ap (λ u. act (is_readable m.frame.map) m.objects u call) is.thread
     ∙ sym (acted-call m r.thread (ask_of r) call is.asks)
 
--- it serves the threads that the step does
+-- it gives a view to the threads to which the step does
 pub called-served :
     (m : Machine) (r : Record) (o : Objects) (map : List Mapped) (t : ℕ) (call : Call) (e : Effect) (n : ℕ)
     → IsCalled m r o map t call

@@ -28,7 +28,7 @@ use Rattle.history_facts.specs.declared.outline.Outline.{Outline}
 use Rattle.history_facts.specs.Outlining.{machine_at, numbered, IsOutlineOf, MayBeApplied}
 use Rattle.history_facts.proofs.Applying.{ready, can-make}
 
--- the machine after a record that stands at a place
+-- the machine after the record at a place
 applied-more :
     (m : Machine) (rs : List Record) (k : ℕ) (r : Record) → slice_get rs k ≡ Some r
     → applied_from m (take (suc k) rs) ≡ apply (applied_from m (take k rs)) r
@@ -43,7 +43,7 @@ machine-more h k r at =
     let next : k + 1 ≡ suc k = omega arith in
     ap (machine_at h) next ∙ applied-more (first h.setup) h.records k r at
 
--- where each record can be applied, so can the one at a place, on a machine that holds together
+-- if each record can be applied, so can the one at a place, on a whole machine
 can-at :
     (m : Machine) (rs : List Record) (k : ℕ) (r : Record) → can_apply_from m rs ≡ true → slice_get rs k ≡ Some r
     → can_apply (applied_from m (take k rs)) r ≡ true
@@ -171,7 +171,7 @@ few-steps m r whole can = few_numbers m r.thread whole (ready m r can)
 pub few-threads : (m : Machine) → IsWhole m → length m.harts ≤ 32
 few-threads m whole = few m whole
 
--- that of the machine at the start
+-- the one of the machine at the start
 zeros-none : (n u : ℕ) → get_or {A = ℕ} (replicate {A = ℕ} n 0) u 0 ≡ 0
 zeros-none zero u = refl
 zeros-none (suc n) zero = refl

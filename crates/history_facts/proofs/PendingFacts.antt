@@ -19,8 +19,8 @@ by_choice : (b : Bool) (reads : ℕ → ℕ → List ℕ) (m : Machine) (r : Rec
 by_choice true reads m r rs = refl
 by_choice false reads m r rs = refl
 
--- what is to come begins with the fact of a record that may be applied, while all before it were, and else with a bare
--- one
+-- the facts to come begin with the fact of a record that may be applied, as long as all before it were, and else with
+-- a bare one
 next-to-come :
     (fits : Bool) (reads : ℕ → ℕ → List ℕ) (m : Machine) (r : Record) (rs : List Record)
     → facts_to_come fits reads m (r ∷ rs)
@@ -29,7 +29,7 @@ next-to-come :
 next-to-come true reads m r rs = by_choice (can_apply m r) reads m r rs
 next-to-come false reads m r rs = refl
 
--- One turn of the loop: with the facts so far and those to come, one fact and machine more, where the record at a place
+-- One turn of the loop: the facts so far and those to come, with one more fact and machine, if the record at a place
 -- is the next.
 pub record IsNext (reads : ℕ → ℕ → List ℕ) (records : List Record) (place : ℕ) (m : Machine) (r : Record)
     (before after : Bool) (so_far facts : List Fact) (f : Fact) : Type 0 where
@@ -37,7 +37,7 @@ pub record IsNext (reads : ℕ → ℕ → List ℕ) (records : List Record) (pl
   pub fits : after ≡ (before && can_apply m r)
   pub more : facts ≡ so_far ++ f ∷ []
 
--- what is left of some records
+-- the records from a place on
 pub rest-of :
     (records : List Record) (place : ℕ) (r : Record) → slice_get records place ≡ Some r
     → drop place records ≡ r ∷ drop (place + 1) records
@@ -69,7 +69,7 @@ follows reads records place m next r before after so_far facts all f is is_fact 
     ∙ ap (λ xs. so_far ++ xs) (sym come)
     ∙ known
 
--- a record that may be applied was
+-- a record that may be applied was applied
 pub follows-applied :
     (reads : ℕ → ℕ → List ℕ) (records : List Record) (place : ℕ) (m next : Machine) (r : Record)
     (before after : Bool) (so_far facts all : List Fact) (f : Fact)
@@ -86,7 +86,7 @@ none-to-come : (fits : Bool) (reads : ℕ → ℕ → List ℕ) (m : Machine) �
 none-to-come true reads m = refl
 none-to-come false reads m = refl
 
--- past the last record the facts so far are all
+-- past the last record, the facts so far are all
 pub all-came :
     (fits : Bool) (reads : ℕ → ℕ → List ℕ) (m : Machine) (records : List Record) (place : ℕ) (facts all : List Fact)
     → length records ≤ place → facts ++ facts_to_come fits reads m (drop place records) ≡ all → facts ≡ all
@@ -94,7 +94,7 @@ all-came fits reads m records place facts all past known =
     sym (append-nil facts) ∙ ap (λ xs. facts ++ xs) (sym (none-to-come fits reads m))
     ∙ ap (λ rs. facts ++ facts_to_come fits reads m rs) (sym (drop_all place records past)) ∙ known
 
--- ---- whether all records fit, and the machine that they leave
+-- ---- whether all records fit, and the machine after them
 
 can-choice :
     (before can : Bool) (m : Machine) (r : Record) (rs : List Record)
@@ -104,8 +104,8 @@ can-choice false can m r rs = refl
 can-choice true false m r rs = refl
 can-choice true true m r rs = refl
 
--- What is known of some records while they are applied: all fit where those so far did and the others fit after them,
--- and if those so far did, all leave what the others leave.
+-- What is known of some records while they are applied: all fit exactly if those so far did and the others fit after
+-- them, and if those so far did, the machine after all is the one after the others.
 pub record AreLeft (start : Machine) (records : List Record) (fits : Bool) (m : Machine) (rest : List Record) : Type 0
   where
     pub can : can_apply_from start records ≡ (fits && can_apply_from m rest)

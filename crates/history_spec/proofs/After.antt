@@ -1,4 +1,4 @@
--- What an applied record leaves of one hart, as a function of that hart.
+-- What applying a record does to one hart, as a function of that hart.
 use Rattle.std.proofs.Common.{◌≡◌, ◌≢◌, ◌<◌, ◌≤◌, ◌+◌, ℕ, zero, suc, Bool, true, false, eqb, cond, List, [], ◌∷◌, ◌++◌, length, set, Option, Some, None, refl, ap, sym, ◌∙◌, ap₂, inl, inr, arith}
 use Rattle.std.proofs.lemmas.Bool.{cases_eq, cases_lt, eq-eqb}
 use Rattle.std.proofs.lemmas.Bool.Decides.{nat_tests}
@@ -29,7 +29,7 @@ abbrev pub woken_at : Memory → Option ℕ → List ℕ → ℕ → Hart → Ha
 woken_at memory reported [] u h = h
 woken_at memory reported (v ∷ us) u h = woken_at memory reported us u (cond (eqb v u) (returned memory 0 reported h) h)
 
--- after an effect, with nobody created
+-- after an effect, if no thread is created
 abbrev pub settled_at : Effect → Memory → ℕ → ℕ → Hart → Hart
 settled_at e memory t u h = woken_at memory e.reported e.woken u (cond (eqb t u) (fated e.fate memory h) h)
 
@@ -152,7 +152,7 @@ acted-written :
 acted-written m t u memory r put (Asks call) = refl
 acted-written m t u memory r put (Stops e) = refl
 
--- who is woken waited, or is the caller
+-- a woken thread waited, or is the caller
 pub acted-keeps :
     (m : Machine) (t : ℕ) (a : Asked)
     → IsTied m.objects m.harts → is_ready (hart_of m t).status ≡ true
@@ -190,7 +190,7 @@ woken_at-none memory reported (v ∷ us) u h none =
     let first : eqb v u ≡ false = or-left (eqb v u) (is_in u us) none in
     rw first (woken_at-none memory reported us u h (or-right (eqb v u) (is_in u us) none))
 
--- what an applied record leaves of each hart
+-- the harts after a record was applied
 pub apply-at :
     (m : Machine) (r : Record) (u : ℕ)
     → IsTied m.objects m.harts → is_ready (hart_of m r.thread).status ≡ true
@@ -325,12 +325,12 @@ apply-limit m r =
     (written m r.thread (masked m.memory r.kept.delta) r.kept.finish
     (put_of m.frame.map (hart_of m r.thread).view r.kept)) r.thread (ask_of r)
 
--- the end that a step makes by itself
+-- the end of a step by itself
 abbrev pub own_end : Machine → ℕ → Asked → Option End
 own_end m t (Asks call) = fate_end (act (is_readable m.frame.map) m.objects t call).0.fate
 own_end m t (Stops e) = Some e
 
--- the same of what a record's thunk asks for
+-- the same of what a record's thunk requests
 abbrev pub own_end_of : Machine → Record → Option End
 own_end_of m r = own_end m r.thread (ask_of r)
 

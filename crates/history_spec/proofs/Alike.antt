@@ -1,4 +1,4 @@
--- Machines that are the same but for bytes of views that nobody reads: records are applied to both alike.
+-- Machines that are the same but for bytes of views that no thunk reads: applying a record keeps them alike.
 use Rattle.std.proofs.Common.{◌≡◌, ◌≢◌, ℕ, suc, Bool, true, false, ◌&&◌, ◌||◌, eqb, cond, List, [], ◌∷◌, ◌++◌, length, map, Option, Some, None, is_none, refl, ap, ap₂, sym, ◌∙◌, subst, inl, inr, ◌⊎◌, arith}
 use Rattle.std.proofs.lemmas.Bool.{cases_eq, eq-eqb, eqb-true}
 use Rattle.std.proofs.lemmas.Bool.Decides.{nat_tests}
@@ -31,8 +31,8 @@ use Rattle.history_spec.proofs.After.{woken_at, settled_at, created_at, ran_at, 
 abbrev pub bare : Hart → Hart
 bare h = record { view = []; regs = h.regs; number = h.number; status = h.status }
 
--- two machines that are alike: they differ in views alone, and as long as no end came, there only on pages that the
--- next old thunk of a ready thread doesn't read
+-- two machines that are alike: they differ in views alone, and while there is no end, only on pages that the next old
+-- thunk of a ready thread doesn't read
 pub record IsAlike (reads : ℕ → ℕ → List ℕ) (m n : Machine) : Type 0 where
   pub frame : n.frame ≡ m.frame
   pub limit : n.limit ≡ m.limit
@@ -48,7 +48,7 @@ pub record IsAlike (reads : ℕ → ℕ → List ℕ) (m n : Machine) : Type 0 w
       → is_in p (reads u (hart_of m u).number) ≡ true
       → page_of (hart_of n u).view p ≡ page_of (hart_of m u).view p
 
--- a record that is true, and reads the pages that its thunk is said to read
+-- a record that is true, and whose read pages are those given for its thunk
 pub record IsReading (reads : ℕ → ℕ → List ℕ) (f : Frame) (r : Record) : Type 0 where
   pub honest : IsTrue f r.start r.kept
   pub slots : reads r.thread r.number ≡ read_slots r
@@ -111,7 +111,7 @@ bare-after e mem other r n u g h same =
     (cond (eqb r.thread u) (fated e.fate mem (ran_at r u g)) (ran_at r u g))
     (cond (eqb r.thread u) (fated e.fate other (ran_at r u h)) (ran_at r u h)) called)
 
--- whom a step touches
+-- which threads a step touches
 abbrev pub touched : Effect → ℕ → ℕ → ℕ → Bool
 touched e t n u = eqb t u || (is_in u e.woken || is_in u (starting n e.created))
 
@@ -161,7 +161,7 @@ woken-new mem reported (v ∷ us) u h there = here (woken-new mem reported us u 
     here later true h1 = woken-stays_new mem reported us u (returned mem 0 reported h) refl
     here later false h1 = later h1
 
--- a thread that an effect gives a view has it
+-- a thread to which an effect gives a view has it
 pub record IsServed (e : Effect) (mem : Memory) (t n u : ℕ) (h : Hart) : Type 0 where
   pub there : is_in u (served e t n) ≡ true
   pub view : h.view ≡ mem
@@ -203,7 +203,7 @@ created-served e mem t u n (Some c) h is there =
     here true h1 = refl
     here false h1 = h1
 
--- who is touched and ready after a step that makes no end was given its view
+-- a thread that is touched, and ready after a step without an end, was given its view
 pub touched-served :
     (e : Effect) (mem : Memory) (r : Record) (n u : ℕ) (h : Hart)
     → touched e r.thread n u ≡ true → fate_end e.fate ≡ None → is_ready (after_at e mem r n u h).status ≡ true

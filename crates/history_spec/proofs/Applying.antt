@@ -48,7 +48,7 @@ IsMemory-masked map m delta whole =
     let shape = masked-shape delta m (recursion_from_All IsPage m whole.pages) in
     record { count = shape.0 ∙ whole.count; pages = All-from_recursion IsPage (masked m delta) shape.1 }
 
--- a record that fits is of a ready thread, so where there is no end its thread may make the next step
+-- a record that fits is of a ready thread, so its thread may make the next step if there is no end
 pub fits-can_step : (m : Machine) (r : Record) → is_none m.ending ≡ true → fits m r ≡ true → can_step m r.thread ≡ true
 unfolding fits
 fits-can_step m r none fit =
@@ -72,7 +72,7 @@ apply-whole m r whole can =
     (put_of m.frame.map (hart_of m r.thread).view r.kept) whole can
     (IsMemory-masked m.frame.map m.memory r.kept.delta whole.memory)
 
--- an applied record leaves every other ready thread as it is
+-- applying a record keeps every other ready thread as it is
 pub apply-stays :
     (m : Machine) (r : Record) (u : ℕ)
     → IsWhole m → can_step m r.thread ≡ true

@@ -14,7 +14,7 @@ use Rattle.history_spec.proofs.Places.{left_from, left-above, below-all, IsClose
 use Rattle.history_spec.proofs.Every.{keeps-begin}
 use Rattle.history_spec.proofs.Honest.{facts-threads, honest-threads, begin-leads}
 
--- the first that is left of a thread is moved to the front
+-- the first remaining record of a thread is moved to the front
 pub front-at :
     {A : Type 0} → (thread : A → ℕ) (look : ℕ → A) (absent : A) (come : List ℕ) (j : ℕ) (xs : List A) (k : ℕ)
     → is_in j come ≡ false → k ≤ j → j < k + length xs
@@ -53,7 +53,7 @@ front-at {A} thread look absent come j (x ∷ xs) k new low high at apart =
         ap (λ (y : A). eqb (thread y) (thread (look j))) x_is ∙ apart k (omega arith) (omega arith) none in
         rw not_own (ap (set_second x) next)
 
--- what stands at a place of two lists of the same threads
+-- the element at a place of two lists of the same threads
 thread-at :
     (fs : List Fact) (rs : List Record) (absent : Record) (i : ℕ)
     → map fact_thread fs ≡ map record_thread rs → i < length fs
@@ -108,7 +108,7 @@ arranged-left fs rs absent (j ∷ ps) come same closed order =
     (ap (λ (qs : List Record). get_or rs j absent ∷ qs)
     (arranged-left fs rs absent ps (j ∷ come) same coming.closed coming.later))
 
--- there is no place where there is no record
+-- a place without a record
 arranged-places :
     (fs : List Fact) (rs : List Record) (ps : List ℕ)
     → map fact_thread fs ≡ map record_thread rs → is_order fs ps ≡ true

@@ -1,4 +1,4 @@
--- The ancestors of a step among the steps of a thread are the first of them, so a clock tells which they are.
+-- The ancestors of a step among the steps of a thread are the first of them, so a clock determines which they are.
 use Rattle.std.proofs.Common.{◌≡◌, ◌<◌, ◌≤◌, ◌+◌, ℕ, zero, suc, Bool, true, false, ◌&&◌, ◌||◌, eqb, ltb, cond, List, refl, ap, sym, ◌∙◌, subst, inl, inr, ◌↔◌, arith}
 use Rattle.std.proofs.lemmas.Bool.{cases_eq, eq-eqb, eqb-true}
 use Rattle.std.proofs.lemmas.Bool.Decides.{nat_tests}
@@ -100,7 +100,7 @@ bounded fs (suc n) i (suc j) below chain = here (chain-of fs n i (suc j) chain) 
         subst (λ (x : ℕ). reaches fs x i k ≡ true) same
         (as-long fs k (Rattle.std.specs.Prelude.◌-◌ j k) i k (later k low part))) is
 
--- one link more at the front
+-- one more link at the front
 prepend :
     (fs : List Fact) (n h i j : ℕ) → h < i → i < j → before_at fs h i ≡ true → reaches fs n i j ≡ true
     → reaches fs (suc n) h j ≡ true
@@ -167,7 +167,7 @@ count-stay p j (suc n) low none =
           rw here (omega arith)
     ]
 
--- the clock tells which steps of a thread are the step or its ancestors: those whose numbers are below it
+-- the clock determines which steps of a thread are the step or its ancestors: those whose numbers are below it
 pub clock-tells :
     (fs : List Fact) (i j : ℕ) → j ≤ i
     → is_up_to fs i j ≡ true ↔ number_at fs j < clock_at fs i (fact_at fs j).thread

@@ -61,7 +61,7 @@ pub fit-facts :
     → facts_from reads m (r ∷ rs) ≡ fact_of reads m r ∷ facts_from reads (apply m r) rs
 fit-facts reads m r rs here = rw here refl
 
--- what the test of two facts says
+-- what the test of two facts states
 pair-from :
     (reads : ℕ → ℕ → List ℕ) (m : Machine) (a b : Record)
     → IsWhole m → is_none m.ending ≡ true → fits m a ≡ true → is_none (apply m a).ending ≡ true → fits (apply m a) b ≡ true
@@ -107,7 +107,7 @@ pub record IsFront (reads : ℕ → ℕ → List ℕ) (m : Machine) (rs qs : Lis
   pub facts : facts_from reads m qs ≡ fs
   pub reading : AllByRecursion (IsReading reads m.frame) qs
 
--- two neighbours changed, and what follows
+-- two neighbours swapped, and what follows
 front-swap :
     (reads : ℕ → ℕ → List ℕ) (m : Machine) (a : Record) (rs : List Record) (b : Record) (rest : List Record)
     → IsWhole m → AllByRecursion (IsReading reads m.frame) (a ∷ []) → (is_none m.ending && fits m a) ≡ true
@@ -258,7 +258,7 @@ moved-full t (f ∷ fs) may none = here (eqb f.thread t) (moved fact_thread t fs
     here false [] h = cc
     here false (g ∷ gs) h = cc
 
--- whatever steps have come, each after all that must come before it, the rest can follow in the old order, to the same
+-- whatever steps have been made, each after all that must come before it, the rest can follow in the old order, to the
 -- end
 pub every :
     (reads : ℕ → ℕ → List ℕ) (s : List ℕ) (m : Machine) (rs : List Record)

@@ -1,4 +1,4 @@
--- The smallest history that can be had, by which the definitions of histories are tried.
+-- The smallest history, by which the definitions of histories are tried.
 use Rattle.std.proofs.Common.{◌≡◌, ◌<◌, ℕ, Bool, true, false, ◌&&◌, [], ◌∷◌, length, Option, Some, None, is_none, is_some, refl, ap, sym, ◌∙◌, arith}
 use Rattle.std.proofs.lemmas.List.Elements.{recursion_from_All, All-from_recursion}
 use Rattle.elf_spec.proofs.Examples.{hi_elf, hi_is_accepted}
@@ -133,7 +133,7 @@ early-fits = refused (fits (first longer) early) refl
         cc
     refused false fit = refl
 
--- Its history isn't coherent, since the fuel ends a thunk after as many turns as it allows.
+-- Its history isn't coherent, since the fuel ends a thunk only after as many turns as it allows.
 pub early-not_coherent : is_coherent (record { setup = longer; records = early ∷ [] }) ≡ false
 early-not_coherent =
     rw early-fits (never (is_none (first longer).ending) (is_some (apply (first longer) early).ending))
@@ -142,7 +142,7 @@ early-not_coherent =
     never true b = refl
     never false b = refl
 
--- Its program may be run on another input, and with other limits, by the history of the one step.
+-- Its program may be run on another input, and with other limits, based on the history of the one step.
 pub goes-edited : CanGoBy (Some only_step) (record shortest { input = 7 ∷ [] })
 goes-edited =
     record {
@@ -192,11 +192,11 @@ goes-limit =
       sound = (only-honest, refl);
     }
 
--- Another executable may not be run by it.
+-- Another executable may not be run, based on it.
 pub goes-elf : CanGoBy (Some only_step) (record shortest { elf = [] }) → ⊥
 goes-elf can = let same : hi_elf ≡ [] = can.sound.1 in absurd cc
 
--- By no history, and not by one that isn't honest.
+-- It may be run based on no history, but not based on one that isn't honest.
 pub goes-alone : CanGoBy None shortest
 goes-alone = record { valid = shortest-setup; sound = tt }
 

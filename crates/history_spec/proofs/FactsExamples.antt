@@ -22,7 +22,7 @@ use Rattle.machine_spec.proofs.Guests.{begins, late}
 use Rattle.history_spec.specs.Facts.{Fact, reads_in, facts_from}
 use Rattle.history_spec.specs.Ancestors.{edges_at}
 
--- the record of a thread's next step, whose stored bytes are given, since its masks are long
+-- the record of a thread's next step; its stored bytes are given, since its masks are long
 abbrev pub recorded : Machine → ℕ → List PageDelta → Record
 recorded m t delta =
     record {
@@ -88,7 +88,7 @@ unfolding step finished apply fits fits_at may_end put_of reads_of thunk turn fe
     is_readable put_addresses loaded may_store bytes_stored with_byte first_registers all_unlocked
 edges-late = refl
 
--- What doesn't fit, and all that follows it, has bare facts.
+-- A record that doesn't fit, and each that follows it, has a bare fact.
 pub facts-bare :
     facts_from (reads_in steps) created
     (recorded created 1 (record { slot = 1; mask = true ∷ []; bytes = 51 ∷ [] } ∷ []) ∷ recorded

@@ -1,4 +1,4 @@
--- The records of an honest history read what they are said to read, and each is found by its thread and number.
+-- The thunks of an honest history read what its records give, and each record is found by its thread and number.
 use Rattle.std.proofs.Common.{◌≡◌, ◌≢◌, ◌≤◌, ℕ, Bool, true, false, ◌&&◌, eqb, cond, List, [], ◌∷◌, ◌++◌, count_by, find, map, ◌||◌, Some, is_none, refl, ap, ap₂, sym, ◌∙◌, inl, inr, arith}
 use Rattle.std.proofs.lemmas.Bool.{cases_eq, eq-eqb, eqb-true}
 use Rattle.std.proofs.lemmas.Bool.Decides.{nat_tests}
@@ -19,7 +19,7 @@ use Rattle.history_spec.proofs.Simulate.{IsFollowing}
 use Rattle.machine_spec.specs.Step.{apply, fits}
 use Rattle.history_spec.proofs.Every.{every, keeps-begin, moved-full}
 
--- a record whose number is at least how many of its thread come earlier
+-- a record whose number is at least how many records of its thread come before it
 abbrev IsAbove : List ℕ → Record → Type 0
 IsAbove earlier r = count_by (λ (t : ℕ). eqb t r.thread) earlier ≤ r.number
 
@@ -206,7 +206,7 @@ pub honest-threads :
 honest-threads h s keep =
     threads-arranged s h.records (facts h) (facts-threads (reads_in h.records) (first h.setup) h.records) keep
 
--- what is arranged is found in the history
+-- what is reordered is found in the history
 second-all :
     (P : Record → Type 0) (a : Record) (rs : List Record) → P a → AllByRecursion P rs
     → AllByRecursion P (set_second a rs)
@@ -258,7 +258,7 @@ pub honest-every :
     → IsFollowing (reads_in h.records) (first h.setup) h.records (first h.setup) (arranged s h.records)
 honest-every h s honest keep = honest-begin h s honest (keeps-begin (facts h) s keep)
 
--- so whatever has come, with the rest in the old order leads to the same
+-- so from any beginning, the rest in the old order leads to the same
 pub begin-leads :
     (h : History) (s : List ℕ) → IsHonest h → may_begin (facts h) s ≡ true → LeadToTheSame h (arranged s h.records)
 begin-leads h s honest begin =

@@ -1,4 +1,4 @@
--- What a step answers and changes depends on the objects on which it acts alone.
+-- What a step answers and changes depends only on the objects on which it acts.
 use Rattle.std.proofs.Common.{◌≡◌, ◌+◌, ℕ, Bool, true, false, cond, List, [], length, Option, Some, None, refl, ap, sym, ◌∙◌, subst, arith, ext_get_or}
 use Rattle.memory_spec.specs.Pages.{Mapped, Memory}
 use Rattle.guest_call.specs.declared.Call.{Call}
@@ -31,7 +31,7 @@ use Rattle.machine_spec.specs.Step.{asked, asked_call, apply, fate_end}
 use Rattle.history_spec.specs.Facts.{ask_of, acted, effect_of, acting_on, objects_of}
 use Rattle.history_spec.proofs.After.{apply-objects, own_end, own_end_of}
 
--- effect, objects acted on and end of what was asked, without the machine
+-- effect, objects acted on and end of what was requested, without the machine
 abbrev acted_on : List Mapped → ℕ → Asked → Objects → Effect × Objects
 acted_on map t (Asks call) o = act (is_readable map) o t call
 acted_on map t (Stops e) o = (exits 0, o)
@@ -61,7 +61,7 @@ local-on :
 local-on map t (Asks call) o kept = act_local (is_readable map) o t call kept
 local-on map t (Stops e) o kept = nothing_local (exits 0) [] o
 
--- as far as another machine has the same map, and the same objects where the step acts
+-- another machine has the same map, and the same objects where the step acts
 pub record IsMet (m : Machine) (r : Record) (n : Machine) : Type 0 where
   pub frame : n.frame ≡ m.frame
   pub kept : IsKept m.objects
@@ -129,7 +129,7 @@ parts-met m n r p met kept among =
     ∙ sym (ap (λ (o : Objects). part_of o p)
     (apply-objects m r ∙ ap (λ (x : Effect × Objects). x.1) (acted-on m r.thread (ask_of r))))
 
--- objects that stand alike one by one are the same
+-- objects that are alike one by one are the same
 same-objects :
     (o : Objects) (ts : List Member) (ms : List Mutex) (ss : List Semaphore) (bs : List Barrier) (cs : List Condition)
     (rs : List RwLock)
@@ -152,7 +152,7 @@ objects-same o q kept_o kept_q alike =
     (ext_get_or unheld q.rwlocks o.rwlocks (kept_q.all_rwlocks ∙ sym kept_o.all_rwlocks)
     (λ i below. let same = alike (RwLockOf i) in cc))
 
--- who creates a thread acts on the table of threads
+-- a call that creates a thread acts on the table of threads
 creates-on :
     (map : List Mapped) (t : ℕ) (a : Asked) (o : Objects)
     → length (acted_on map t a o).1.threads ≡ length o.threads + created_count (acted_on map t a o).0.created
@@ -183,7 +183,7 @@ uncreated m r kept apart =
     ap (λ (ts : List Member). length ts) same in
     none-created (effect_of m r).created (omega arith)
 
--- who appends to the output acts on it
+-- a call that appends to the output acts on it
 unput-call :
     (m : Machine) (t : ℕ) (r : Registers) (c : Option Call)
     → is_among Output (acting_on m (asked_call t r c)) ≡ false → appended_by m.frame.map c ≡ []

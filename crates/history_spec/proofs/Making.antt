@@ -1,4 +1,4 @@
--- Where all records are as the machine makes them, they are those of its steps; and the first that isn't is one.
+-- If all records are as the machine makes them, they are those of its steps; the first that isn't is false.
 use Rattle.std.proofs.Common.{◌≡◌, ℕ, zero, suc, ◌<◌, true, List, [], ◌∷◌, length, Option, Some, None, is_some, refl, sym, ap, ◌∙◌, subst, arith}
 use Rattle.thunk_spec.specs.Record.{Record}
 use Rattle.machine_spec.specs.Machine.{Machine}
@@ -13,7 +13,7 @@ use Rattle.history_spec.proofs.Scratch.{and-left, and-right}
 use Rattle.history_spec.proofs.Truth.{record-apply}
 use Rattle.history_spec.specs.Audit.{IsMade, IsFirstFalseFrom, IsFirstFalse, IsVerdict}
 
--- A made record is applied as a step is.
+-- Applying a made record is making the step.
 pub made-apply : (m : Machine) (r : Record) → IsWhole m → IsMade m r → apply m r ≡ step m r.thread
 made-apply m r whole is = ap (apply m) is.made ∙ record-apply m r.thread whole is.can
 
@@ -86,7 +86,7 @@ one-first m (r ∷ rs) (Some (suc i)) (Some (suc j)) x y =
     let also : i ≡ j = cc in
     ap (λ (k : ℕ). Some (suc k)) also
 
--- where an end comes after the records, the first false one is one of them
+-- if an end comes after the records, the first false one is one of them
 false-below :
     (m : Machine) (rs : List Record) (i : ℕ) → is_some (applied_from m rs).ending ≡ true
     → IsFirstFalseFrom m rs (Some i) → i < length rs

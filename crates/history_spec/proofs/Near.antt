@@ -1,5 +1,5 @@
--- A run of another input beside a run: outside of a set of steps that is closed under what spreads a difference, all
--- goes the same way.
+-- A run of another input beside a run: they differ only in a set of steps that is closed under what spreads a
+-- difference.
 use Rattle.std.proofs.Common.{◌≡◌, ◌≢◌, ◌+◌, ℕ, suc, Bool, true, false, ◌&&◌, ◌||◌, eqb, cond, List, [], ◌∷◌, length, Option, Some, None, is_none, refl, ap, ap₂, sym, ◌∙◌, subst, inl, inr, ◌⊎◌, arith}
 use Rattle.std.proofs.lemmas.Bool.{cases_eq, eq-eqb}
 use Rattle.std.proofs.lemmas.Bool.Decides.{nat_tests}
@@ -35,8 +35,8 @@ plain h = record { view = []; regs = record { pc = 0; x = [] }; number = h.numbe
 abbrev pub other_record : Record → Registers → Kept → Record
 other_record r start kept = record { thread = r.thread; number = r.number; start = start; kept = kept }
 
--- two machines that are near each other: outside of a set of steps, told by thread and number, registers are the same,
--- and outside of some pages memory is, and what the thunks outside of the set read of their views
+-- two machines that are near each other: outside of a set of steps, given by thread and number, registers are the same,
+-- and outside of some pages memory is, and so are the bytes of their views that thunks outside of the set read
 pub record IsNear (reads : ℕ → ℕ → List ℕ) (among : ℕ → ℕ → Bool) (taint : ℕ → Bool) (m n : Machine) : Type 0 where
   pub frame : n.frame ≡ m.frame
   pub steps : n.steps ≡ m.steps
@@ -50,7 +50,7 @@ pub record IsNear (reads : ℕ → ℕ → List ℕ) (among : ℕ → ℕ → Bo
       (u p : ℕ) → is_ready (hart_of m u).status ≡ true → among u (hart_of m u).number ≡ false
       → is_in p (reads u (hart_of m u).number) ≡ true → page_of (hart_of n u).view p ≡ page_of (hart_of m u).view p
 
--- a record of a step that isn't in the set fits here where it fits there: so what is executed is in the set
+-- a record of a step outside the set fits on one machine if it fits on the other: so executed steps are in the set
 pub near-fits :
     (reads : ℕ → ℕ → List ℕ) (among : ℕ → ℕ → Bool) (taint : ℕ → Bool) (m n : Machine) (r : Record)
     → IsNear reads among taint m n → reads r.thread r.number ≡ read_slots r → fits m r ≡ true
@@ -190,13 +190,13 @@ regs-after e mem other r q n u g h thread same =
 abbrev pub taint_after : (ℕ → ℕ → Bool) → (ℕ → Bool) → Record → ℕ → Bool
 taint_after among taint r p = taint p || (among r.thread r.number && is_in p (written_slots r))
 
--- the step of the other run: it asks the same and writes no other pages, and outside of the set it is the very same
+-- the step of the other run: it requests the same and writes no other pages, and outside of the set it is the same
 pub record IsStepLike (among : ℕ → ℕ → Bool) (r : Record) (start : Registers) (kept : Kept) : Type 0 where
   pub ask : ask_of (other_record r start kept) ≡ ask_of r
   pub written : (p : ℕ) → is_in p (written_slots (other_record r start kept)) ≡ true → is_in p (written_slots r) ≡ true
   pub same : among r.thread r.number ≡ false → kept ≡ r.kept
 
--- the set is closed at this step: the next step of its thread is in it, and each thunk that is given a page that may
+-- the set is closed at this step: it has the next step of its thread, and each thunk that is given a page that may
 -- differ, and reads it
 pub record IsClosedAt (reads : ℕ → ℕ → List ℕ) (among : ℕ → ℕ → Bool) (taint : ℕ → Bool) (m : Machine)
     (r : Record) : Type 0 where

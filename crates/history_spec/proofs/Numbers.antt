@@ -25,7 +25,7 @@ use Rattle.machine_spec.proofs.Harts.{ready-below}
 use Rattle.history_spec.specs.History.{History, IsHonest, schedule_of, threads_of_records, is_numbered, is_numbered_after}
 use Rattle.history_spec.proofs.Scratch.{and-left, and-right}
 
--- writing a hart with the number that was there changes no number
+-- writing a hart with an unchanged number changes no number
 number-set :
     (hs : List Hart) (t u : ℕ) (h : Hart)
     → h.number ≡ (hart_in hs t).number
@@ -50,7 +50,7 @@ number-woken memory reported (v ∷ us) hs u =
     number-woken memory reported us (set hs v (returned memory 0 reported (hart_in hs v))) u
     ∙ number-set hs v u (returned memory 0 reported (hart_in hs v)) refl
 
--- who is created has made no step, as who isn't there
+-- a created thread has made no step, and neither has a thread that doesn't exist
 number-pushed :
     (hs : List Hart) (h : Hart) (u : ℕ) → h.number ≡ 0
     → (hart_in (hs ++ h ∷ []) u).number ≡ (hart_in hs u).number
@@ -79,7 +79,7 @@ number-done :
 number-done m t (Asks call) u = number-settled (act (is_readable m.frame.map) m.objects t call).0 m.memory t m.harts u
 number-done m t (Stops e) u = refl
 
--- how much the step of a thread adds to the number of another or of itself
+-- how much the step of a thread adds to its own number, and to that of another
 abbrev pub one_for : ℕ → ℕ → ℕ
 one_for u t = cond (eqb t u) 1 0
 
@@ -133,13 +133,13 @@ pub count-cons :
     → count_by (λ (x : ℕ). eqb x u) (t ∷ ts) ≡ one_for u t + count_by (λ (x : ℕ). eqb x u) ts
 count-cons u t ts = sum_by-cons (λ (x : ℕ). cond (eqb x u) 1 0) t ts
 
--- one entry more
+-- one more entry
 pub count-more :
     (u t : ℕ) (ts : List ℕ)
     → count_by (λ (x : ℕ). eqb x u) (ts ++ t ∷ []) ≡ count_by (λ (x : ℕ). eqb x u) ts + one_for u t
 count-more u t ts = sum_by_push (λ (x : ℕ). cond (eqb x u) 1 0) ts t
 
--- after a permitted schedule a thread has made so many steps more as there are entries of it
+-- after a permitted schedule a thread has made as many more steps as there are entries of it
 pub scratch-number :
     (m : Machine) (ts : List ℕ) (u : ℕ)
     → is_permitted_from m ts ≡ true
@@ -170,7 +170,7 @@ setup-number s ts u permitted =
     let is = scratch-number (first s) ts u permitted in
     omega arith
 
--- one record more, whose number is right
+-- one more record, whose number is right
 pub numbered-more :
     (earlier : List ℕ) (rs : List Record) (r : Record)
     → is_numbered_after earlier rs ≡ true

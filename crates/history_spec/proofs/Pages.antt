@@ -32,7 +32,7 @@ masked-other (d ∷ delta) m p none =
     masked-other delta (one m d) p (or-right (eqb d.slot p) (is_in p (slots delta)) none)
     ∙ get_or-set_other m d.slot p (spread d.mask d.bytes (page_of m d.slot)) [] other
 
--- a page after the writing follows from that page before
+-- a written page depends on that page before alone
 pub masked-same :
     (delta : List PageDelta) (m n : Memory) (p : ℕ)
     → length n ≡ length m → page_of n p ≡ page_of m p
@@ -62,13 +62,13 @@ masked-same (d ∷ delta) m n p count same =
           ∙ sym (get_or-set_other m d.slot p (spread d.mask d.bytes (page_of m d.slot)) [] other)
     ])
 
--- a page that one of two writings leaves is as after the other alone
+-- a page that the first of two writings doesn't touch is as after the other alone
 pub masked-first :
     (a b : List PageDelta) (m : Memory) (p : ℕ) → is_in p (slots b) ≡ false
     → page_of (masked (masked m b) a) p ≡ page_of (masked m a) p
 masked-first a b m p none = masked-same a m (masked m b) p (length-masked b m) (masked-other b m p none)
 
--- two writings of different pages may change places
+-- two writings of different pages can be swapped
 pub masked-swap :
     (a b : List PageDelta) (m : Memory) → meets (slots a) (slots b) ≡ false
     → masked (masked m b) a ≡ masked (masked m a) b

@@ -8,7 +8,7 @@ use Rattle.history_spec.specs.Keeping.{moved, rest_of, fact_thread, may_come, ke
 use Rattle.history_spec.specs.Orders.{is_order_after, is_order, threads_at}
 use Rattle.history_spec.proofs.Lists.{and-left, and-right, or-left, or-right, or-in_left, or-in_right, is_or_not, not-true}
 
--- the facts at places that haven't come, where the first is of place k
+-- the facts at places that haven't come, the first of which is at place k
 abbrev pub left_from : {A : Type 0} → ℕ → List ℕ → List A → List A
 left_from k come [] = []
 left_from k come (f ∷ fs) = cond (is_in k come) (left_from (suc k) come fs) (f ∷ left_from (suc k) come fs)
@@ -20,7 +20,7 @@ left-above k j come (f ∷ fs) below =
     let isnt : eqb j k ≡ false = grind (arith, nat_tests) in
     rw isnt (ap (λ (rest : List _). cond (is_in k come) rest (f ∷ rest)) (left-above (suc k) j come fs (omega arith)))
 
--- what the next to come, j, is among those left
+-- the facts of the places that haven't come, with that of the next one, j, moved to the front
 pub record IsNext (t : ℕ) (gs : List Fact) (g : Fact) (rest : List Fact) : Type 0 where
   pub may : may_come t gs ≡ true
   pub front : moved fact_thread t gs ≡ g ∷ rest
@@ -101,7 +101,7 @@ apart-at fs i j free =
           (or-right (eqb (fact_at fs i).thread (fact_at fs j).thread) _ free);
     }
 
--- who has come, with all that must come before
+-- a set of places that has all that must come before each of them
 abbrev pub IsClosed : List Fact → List ℕ → Type 0
 IsClosed fs come = (i k : ℕ) → i < k → is_in k come ≡ true → before_at fs i k ≡ true → is_in i come ≡ true
 
@@ -193,7 +193,7 @@ or-true true b h is = refl
 or-true false true h is = cc
 or-true false false h is = cc
 
--- what it is that a place comes next, where those that came have all that must come before them
+-- place j comes next, after places that have come with all that must come before them
 pub record IsComing (fs : List Fact) (come : List ℕ) (j : ℕ) (ps : List ℕ) : Type 0 where
   pub below : j < length fs
   pub new : is_in j come ≡ false

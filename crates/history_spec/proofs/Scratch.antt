@@ -51,7 +51,7 @@ scratch-whole m (t ∷ ts) whole permitted =
     (step-whole m t whole (and-left (can_step m t) (is_permitted_from (step m t) ts) permitted))
     (and-right (can_step m t) (is_permitted_from (step m t) ts) permitted)
 
--- who is ready and makes none of the steps stays as it is
+-- a thread that is ready and makes none of the steps stays as it is
 pub scratch-stays :
     (m : Machine) (ts : List ℕ) (u : ℕ)
     → IsWhole m → is_permitted_from m ts ≡ true
@@ -77,7 +77,7 @@ scratch-stays m (t ∷ ts) u whole permitted none ready =
     other true b h is = cc
     other false b h is = λ same. let yes : eqb t u ≡ true = eq-eqb t u (sym same) in cc
 
--- one step more
+-- one more step
 pub scratch-more : (m : Machine) (ts : List ℕ) (t : ℕ) → scratch_from m (ts ++ t ∷ []) ≡ step (scratch_from m ts) t
 scratch-more m [] t = refl
 scratch-more m (u ∷ ts) t = scratch-more (step m u) ts t

@@ -1,4 +1,4 @@
--- Records are applied alike on machines that are alike.
+-- Applying records keeps machines alike.
 use Rattle.std.proofs.Common.{◌≡◌, ◌+◌, ℕ, suc, Bool, true, ◌&&◌, List, [], ◌∷◌, ◌++◌, length, Option, Some, None, is_none, is_some, refl, ap, ap₂, sym, ◌∙◌, subst, inl, inr}
 use Rattle.std.specs.List.{AllByRecursion}
 use Rattle.memory_spec.specs.Pages.{Memory, page_of}

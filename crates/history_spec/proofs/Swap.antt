@@ -1,4 +1,4 @@
--- Two neighbouring steps of which neither must come before the other may change places.
+-- Two neighbouring steps of which neither must come before the other can be swapped.
 use Rattle.std.proofs.Common.{◌≡◌, ◌≢◌, ◌<◌, ◌≤◌, ◌+◌, ℕ, zero, suc, Bool, true, false, ◌&&◌, ◌||◌, not, eqb, cond, List, [], ◌∷◌, ◌++◌, length, map, get_or, Option, Some, None, is_none, is_some, refl, ap, ap₂, sym, ◌∙◌, subst, inl, inr, ◌⊎◌, arith, append-nil}
 use Rattle.std.proofs.lemmas.Bool.{cases_eq, cases_lt, eqb-true}
 use Rattle.std.proofs.lemmas.Bool.Decides.{nat_tests}
@@ -47,7 +47,7 @@ pub record IsPair (reads : ℕ → ℕ → List ℕ) (m : Machine) (a b : Record
   pub opens : meets (written_slots a) (read_by reads (apply (apply m a) b) (served_by (apply m a) b)) ≡ false
   pub opened : meets (read_by reads (apply m a) (served_by m a)) (written_slots b) ≡ false
 
--- lemmas that know nothing of the pair
+-- lemmas that don't need the pair
 
 ready-some :
     (hs : List Hart) (u : ℕ) → is_ready (hart_in hs u).status ≡ true
@@ -227,7 +227,7 @@ module _ (reads : ℕ → ℕ → List ℕ) (m : Machine) (a b : Record) (pair :
   whole_ba : IsWhole (apply (apply m b) a)
   whole_ba = apply-whole (apply m b) a whole_b (fits-can_step (apply m b) a none_early fit_late)
 
-  -- who is touched by the earlier step isn't touched by the later one
+  -- a thread that the earlier step touches isn't touched by the later one
 
   one_creates : ((effect_of m a).created ≡ None) ⊎ ((effect_of m b).created ≡ None)
   one_creates =
@@ -246,7 +246,7 @@ module _ (reads : ℕ → ℕ → List ℕ) (m : Machine) (a b : Record) (pair :
   index_a : ((effect_of m a).created ≡ None) ⊎ (length (apply m b).harts ≡ length m.harts)
   index_a = elim one_creates [ inl none_new ↦ inl none_new | inr none_new ↦ inr (length-uncreated b none_new) ]
 
-  -- who waits no more after the earlier step isn't woken by the later one
+  -- a thread that the earlier step woke isn't woken by the later one
   woken-once :
       (u : ℕ) → u ≢ a.thread → u ≢ b.thread → is_in u (effect_of m a).woken ≡ true
       → is_in u (effect_of m b).woken ≡ false
@@ -371,7 +371,7 @@ module _ (reads : ℕ → ℕ → List ℕ) (m : Machine) (a b : Record) (pair :
       ∙ at-index (effect_of m a) (masked (masked m.memory b.kept.delta) a.kept.delta) a (length m.harts)
       (length (apply m b).harts) u (hart_of (apply m b) u) index_a
 
-  -- of a hart that the earlier step touches
+  -- a hart that the earlier step touches
   first_ab :
       (u : ℕ) → touched (effect_of m a) a.thread (length m.harts) u ≡ true
       → hart_of (apply (apply m a) b) u ≡ hart_of (apply m a) u
@@ -389,7 +389,7 @@ module _ (reads : ℕ → ℕ → List ℕ) (m : Machine) (a b : Record) (pair :
       (at_b u ∙ untouched-after (effect_of m b) (masked m.memory b.kept.delta) b (length m.harts) u (hart_of m u)
       (apart u is))
 
-  -- of one that it doesn't touch
+  -- a hart that it doesn't touch
   then_ab :
       (u : ℕ) → touched (effect_of m a) a.thread (length m.harts) u ≡ false
       → hart_of (apply (apply m a) b) u

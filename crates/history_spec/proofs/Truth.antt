@@ -1,4 +1,4 @@
--- The records of a permitted schedule are true, so those of an honest history are; applied where they fit they are the
+-- The records of a permitted schedule are true, so those of an honest history are; applied if they fit, they are the
 -- steps.
 use Rattle.std.proofs.Common.{◌≡◌, ℕ, Bool, true, false, cond, ◌&&◌, eqb, List, [], ◌∷◌, Option, Some, None, is_none, is_some, find, refl, ap, sym, ◌∙◌, subst, arith}
 use Rattle.std.proofs.lemmas.Bool.{eq-eqb, eqb-true}
@@ -57,7 +57,7 @@ honest-true h honest =
     subst (λ (rs : List Record). AllByRecursion (IsTrueIn (first h.setup).frame) rs) (sym honest.recorded)
     (records-true (first h.setup) (schedule_of h) (IsWhole-first h.setup honest.valid) honest.permitted)
 
--- what holds of each record holds of what is found
+-- what holds of each record holds of the one that is found
 pub found-all :
     (P : Record → Type 0) (t number : ℕ) (rs : List Record) (r : Record)
     → AllByRecursion P rs → find (is_of t number) rs ≡ Some r → P r
@@ -70,7 +70,7 @@ found-all P t number (x ∷ rs) r all there = here (is_of t number x) (found-all
     here true later h = let same : x ≡ r = cc in subst P same all.0
     here false later h = later h
 
--- what is found is of the thread, at the number
+-- a found record is of the thread, at the number
 pub found-of :
     (t number : ℕ) (rs : List Record) (r : Record) → find (is_of t number) rs ≡ Some r
     → (r.thread ≡ t) × (r.number ≡ number)
@@ -134,7 +134,7 @@ record-fits m t ready =
     let within = kept-within m.frame (hart_of m t).view (hart_of m t).regs in
     rw (ready, number, regs, reads, within) refl
 
--- applied, it is the step
+-- applying it is making the step
 pub record-apply : (m : Machine) (t : ℕ) → IsWhole m → can_step m t ≡ true → apply m (record_of m t) ≡ step m t
 record-apply m t whole can =
     apply-step m (record_of m t) whole (record-true m t whole can)
@@ -178,7 +178,7 @@ honest-coherent h honest =
     ap (λ (m : Machine). is_some m.ending) applied ∙ honest.complete in
     rw (can, ended) refl
 
--- what a run may go by has records that are true where they ended within its fuel
+-- a history that a run may be based on has records that are true if they ended within its fuel
 sound-true :
     (past : Option History) (setup : Setup) (t number : ℕ) (r : Record)
     → IsSound past setup → found past t number ≡ Some r
@@ -201,7 +201,7 @@ found-true setup past m t number r sound frame there fit =
     (sound-true past setup t number r sound there
     (ap (λ (f : Frame). may_end f.fuel r.kept.end r.kept.count) (sym frame) ∙ fits-within m r fit))
 
--- what is found is of the thread, at the number
+-- a found record is of the thread, at the number
 pub past-of :
     (past : Option History) (t number : ℕ) (r : Record)
     → found past t number ≡ Some r → (r.thread ≡ t) × (r.number ≡ number)
@@ -217,7 +217,7 @@ reuse-record setup past m t number r sound whole frame there fit =
     fits-record m r whole (found-true setup past m t number r sound frame there fit) fit
     ∙ ap (record_of m) (past-of past t number r there).0
 
--- and applied it is the step
+-- and applying it is making the step
 pub reuse-apply :
     (setup : Setup) (past : Option History) (m : Machine) (t number : ℕ) (r : Record)
     → IsSound past setup → IsWhole m → m.frame ≡ (first setup).frame
@@ -227,7 +227,7 @@ reuse-apply setup past m t number r sound whole frame there fit =
     apply-step m r whole (found-true setup past m t number r sound frame there fit) fit
     ∙ ap (step m) (past-of past t number r there).0
 
--- under one fuel a record fits by its thread's hart alone
+-- under one fuel, whether a record fits depends on its thread's hart alone
 pub fits-hart :
     (m n : Machine) (r : Record) → n.frame.fuel ≡ m.frame.fuel → hart_of n r.thread ≡ hart_of m r.thread
     → fits n r ≡ fits m r

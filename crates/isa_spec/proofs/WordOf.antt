@@ -1,4 +1,4 @@
--- A word that decodes to an instruction spells it.
+-- A word that decodes to an instruction encodes it.
 use Rattle.std.proofs.Common.{◌≡◌, ℕ, ◌+◌, ◌*◌, ◌/◌, ◌%◌, ◌^◌, ◌<◌, Bool, true, false, ◌&&◌, ◌==◌, if◌then◌else◌, List, [], ◌∷◌, Option, Some, None, refl, arith, subst}
 use Rattle.std.specs.Prelude.{IfSome, option_map, ⊤}
 use Rattle.std.proofs.lemmas.Bool.Decides.{nat_tests}
@@ -20,12 +20,12 @@ use Rattle.isa_spec.specs.Fields.{bits, opcode_of, rd_of, funct3_of, rs1_of, rs2
 use Rattle.isa_spec.specs.Table.{Wanted, fixed, free, Row, is_wanted, row, one_word, branch_row, load_row, store_row, immediate_row, shift_row, register_row, rows, reading_in, reading_of, decoded}
 use Rattle.isa_spec.specs.Encoding.{word_of, i_word, s_word, b_word, u_word, j_word, branch_code, load_code, store_code, immediate_code, shift_code, shift_top, register_code, register_top, InRange, IsWordOf, IsSignExtended, IsOffset, IsUpper}
 
--- a field is as a row wants it
+-- a field is as a row requires
 abbrev pub Meets : Wanted → ℕ → Type 0
 Meets (fixed n) value = value ≡ n
 Meets free value = ⊤
 
--- a row reads only instructions that its words spell
+-- a row reads only instructions that its words encode
 abbrev pub IsGood : Row → Type 0
 IsGood r =
     (w : ℕ) → w < 2 ^ 32 → opcode_of w ≡ r.opcode → Meets r.funct3 (funct3_of w) → Meets r.funct7 (funct7_of w)
@@ -36,12 +36,12 @@ abbrev pub AreGood : List Row → Type 0
 AreGood [] = ⊤
 AreGood (r ∷ rs) = IsGood r × AreGood rs
 
--- a word is put together from its fields
+-- a word is made from its fields
 word_of_fields :
     (w : ℕ) → w < 2 ^ 32 → w ≡ word_of (funct7_of w) (rs2_of w) (rs1_of w) (funct3_of w) (rd_of w) (opcode_of w)
 word_of_fields w h = omega arith
 
--- the fields that an I-immediate came from
+-- the fields that encode an I-immediate
 record FromI (w imm : ℕ) : Type 0 where
   pub high : imm / 2 ^ 5 % 2 ^ 7 ≡ funct7_of w
   pub low : imm % 2 ^ 5 ≡ rs2_of w
@@ -53,7 +53,7 @@ unfolding i_immediate
 from_i w =
     record { high = grind (arith, nat_tests); low = grind (arith, nat_tests); extended = grind (arith, nat_tests) }
 
--- the fields that an S-immediate came from
+-- the fields that encode an S-immediate
 record FromS (w imm : ℕ) : Type 0 where
   pub high : imm / 2 ^ 5 % 2 ^ 7 ≡ funct7_of w
   pub low : imm % 2 ^ 5 ≡ rd_of w
@@ -65,7 +65,7 @@ unfolding s_immediate
 from_s w =
     record { high = grind (arith, nat_tests); low = grind (arith, nat_tests); extended = grind (arith, nat_tests) }
 
--- the fields that a B-immediate came from
+-- the fields that encode a B-immediate
 record FromB (w imm : ℕ) : Type 0 where
   pub high : imm / 2 ^ 12 % 2 * 2 ^ 6 + imm / 2 ^ 5 % 2 ^ 6 ≡ funct7_of w
   pub low : imm / 2 % 2 ^ 4 * 2 + imm / 2 ^ 11 % 2 ≡ rd_of w
@@ -81,7 +81,7 @@ from_b w =
       offset = (grind (arith, nat_tests), grind (arith, nat_tests));
     }
 
--- the parts of a word that a J-immediate came from
+-- the parts of a word that encode a J-immediate
 record FromJ (w imm : ℕ) : Type 0 where
   pub sign : imm / 2 ^ 20 % 2 ≡ bits w 31 31
   pub low : imm / 2 % 2 ^ 10 ≡ bits w 30 21
@@ -101,21 +101,21 @@ from_j w =
       offset = (grind (arith, nat_tests), grind (arith, nat_tests));
     }
 
--- a word of the I-type is the I-type word of what it reads as
+-- a word of the I-type is the I-type word of what it is read as
 i_word_back :
     (w f3 op : ℕ) → w < 2 ^ 32 → opcode_of w ≡ op → funct3_of w ≡ f3
     → w ≡ i_word (i_immediate w) (rs1_of w) f3 (rd_of w) op
 i_word_back w f3 op h e3 eo =
     let h' = from_i w in let whole = word_of_fields w h in rw (h'.high, h'.low, ← eo, ← e3) whole
 
--- a word of the S-type is the S-type word of what it reads as
+-- a word of the S-type is the S-type word of what it is read as
 s_word_back :
     (w f3 op : ℕ) → w < 2 ^ 32 → opcode_of w ≡ op → funct3_of w ≡ f3
     → w ≡ s_word (s_immediate w) (rs2_of w) (rs1_of w) f3 op
 s_word_back w f3 op h e3 eo =
     let h' = from_s w in let whole = word_of_fields w h in rw (h'.high, h'.low, ← eo, ← e3) whole
 
--- a word of the B-type is the B-type word of what it reads as
+-- a word of the B-type is the B-type word of what it is read as
 b_word_back :
     (w f3 op : ℕ) → w < 2 ^ 32 → opcode_of w ≡ op → funct3_of w ≡ f3
     → w ≡ b_word (b_immediate w) (rs2_of w) (rs1_of w) f3 op
@@ -128,13 +128,13 @@ r_word_back :
     → w ≡ word_of f7 (rs2_of w) (rs1_of w) f3 (rd_of w) op
 r_word_back w f7 f3 op h eo e3 e7 = let whole = word_of_fields w h in rw (← eo, ← e3, ← e7) whole
 
--- a word of the U-type is the U-type word of what it reads as
+-- a word of the U-type is the U-type word of what it is read as
 u_word_back :
     (w op : ℕ) → w < 2 ^ 32 → opcode_of w ≡ op → IsUpper (u_immediate w) × (w ≡ u_word (u_immediate w) (rd_of w) op)
 unfolding u_immediate
 u_word_back w op h eo = ((omega arith, omega arith), omega arith)
 
--- a word of the J-type is the J-type word of what it reads as
+-- a word of the J-type is the J-type word of what it is read as
 j_word_back : (w op : ℕ) → w < 2 ^ 32 → opcode_of w ≡ op → w ≡ j_word (j_immediate w) (rd_of w) op
 j_word_back w op h eo = let h' = from_j w in rw (h'.sign, h'.low, h'.middle, h'.high, ← eo) (omega arith)
 
@@ -205,12 +205,12 @@ both : (a b : Bool) → (a && b) ≡ true → (a ≡ true) × (b ≡ true)
 both true b h = (refl, h)
 both false b h = cc
 
--- what a field's test says
+-- what a field's test states
 meets : (wanted : Wanted) (value : ℕ) → is_wanted wanted value ≡ true → Meets wanted value
 meets (fixed n) value h = grind (arith, nat_tests, h)
 meets free value h = tt
 
--- what a row's test says
+-- what a row's test states
 row_meets :
     (r : Row) (op f3 f7 w : ℕ)
     → (op == r.opcode && (is_wanted r.funct3 f3 && (is_wanted r.funct7 f7 && is_wanted r.whole w))) ≡ true
@@ -225,7 +225,7 @@ row_meets r op f3 f7 w passed =
       meets r.whole w c.1,
     )
 
--- a choice between a row's reading and the others'
+-- a choice between a row's reading and that of the others
 chosen :
     (b : Bool) (read : ℕ → Instr) (others : Option (ℕ → Instr)) (w : ℕ) (i : Instr) (P : Instr → Type 0)
     → (b ≡ true → P (read w)) → (option_map (λ f. f w) others ≡ Some i → P i)
@@ -233,7 +233,7 @@ chosen :
 chosen true read others w i P here there e = let same : read w ≡ i = cc in subst P same (here refl)
 chosen false read others w i P here there e = there e
 
--- what good rows read is spelled by the word
+-- an instruction that good rows read is encoded by the word
 found_in :
     (rs : List Row) → AreGood rs → (w : ℕ) (i : Instr) → w < 2 ^ 32
     → option_map (λ f. f w) (reading_in rs (opcode_of w) (funct3_of w) (funct7_of w) w) ≡ Some i
@@ -252,12 +252,12 @@ found_in (r ∷ rs) good w i h e =
     (λ later. found_in rs good.1 w i h later)
     e
 
--- a word that decodes to an instruction spells it
+-- a word that decodes to an instruction encodes it
 pub decoded-spells : (w : ℕ) (i : Instr) → w < 2 ^ 32 → decoded w ≡ Some i → InRange i × IsWordOf w i
 unfolding decoded reading_of
 decoded-spells w i h e = found_in rows rows_good w i h e
 
--- a fact of what is there, where it follows from what the option is
+-- a property of the value of an option, if it follows for each value that the option may have
 if_some : {X : Type 0} (o : Option X) (P : X → Type 0) → ((x : X) → o ≡ Some x → P x) → IfSome o P
 if_some None P h = tt
 if_some (Some x) P h = h x refl

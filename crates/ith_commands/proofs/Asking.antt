@@ -1,4 +1,4 @@
--- Files that are asked for one after the other, and where that stops.
+-- Files whose reads are requested one after the other, and where that stops.
 use Rattle.std.proofs.Common.{◌≡◌, ◌<◌, ◌≤◌, ℕ, zero, suc, List, [], ◌∷◌, ◌++◌, length, take, map, get_or, Option, Some, None, refl, ap, sym, subst, ◌∙◌, append_assoc, arith}
 use Rattle.std.specs.Prelude.{All, IfSome}
 use Rattle.std.proofs.lemmas.List.{append-nil, map-append}
@@ -14,11 +14,11 @@ use Rattle.ith_commands.specs.Contents.{AreLists}
 use Rattle.ith_commands.specs.Refusals.{WhyUnread}
 use Rattle.ith_commands.proofs.Worlds.{stays_trans, none_fell_trans, rose_before, rose_then, long_before, within_before}
 
--- names were asked for, and then others
+-- reads of names were requested, and then of others
 pub asked_both : (xs ys : List Text) (a b c : World) → AsksFor xs a b → AsksFor ys b c → AsksFor (xs ++ ys) a c
 asked_both xs ys a b c one other = other ∙ ap (λ (l : List Text). l ++ ys) one ∙ append_assoc a.asked xs ys
 
--- files were asked for, and then others
+-- reads of files were requested, and then of others
 pub files_both : (xs ys : List Named) (a b c : World) → AsksForFiles xs a b → AsksForFiles ys b c
     → AsksForFiles (xs ++ ys) a c
 files_both xs ys a b c one other =
@@ -39,11 +39,11 @@ names-named : (names : List Text) → map (λ (f : Named). f.name) (lists_named 
 names-named [] = refl
 names-named (name ∷ names) = ap (λ (l : List Text). name ∷ l) (names-named names)
 
--- edit lists of some names were asked for
+-- reads of edit lists of some names were requested
 pub lists_asked : (names : List Text) (a b : World) → AsksFor names a b → AsksForFiles (lists_named names) a b
 lists_asked names a b asked = subst (λ (ns : List Text). AsksFor ns a b) (sym (names-named names)) asked
 
--- a file is within a limit, where it holds what is
+-- a file is within a limit, if its content is and the host states it
 pub within_reported : (reported : Option (List ℕ)) (bytes : List ℕ) (most : ℕ) → IfSome reported (λ t. t ≡ bytes)
     → length bytes ≤ most → IfSome reported (λ t. length t ≤ most)
 within_reported None bytes most is within = tt
@@ -58,7 +58,7 @@ lists_within a (name ∷ names) (list ∷ lists) are =
     All-cons (IsWithin a) (record { name = name; most = MOST_LIST_BYTES }) (lists_named names)
     (within_reported (a.files name) list MOST_LIST_BYTES are.0.0 are.0.1) (lists_within a names lists are.1)
 
--- one file was asked for, and stops a line for a cause
+-- the read of one file was requested, and a cause stops the reads there
 one_stops : (cause : Named → Type 0) (file : Named) (a b : World) → AsksForFiles (file ∷ []) a b → cause file
     → StopsAt cause (file ∷ []) a b
 one_stops cause file a b asked is =
@@ -72,7 +72,7 @@ one_stops cause file a b asked is =
       cause = is;
     }
 
--- it wasn't read
+-- reading it failed
 pub one_failed :
     (file : Named) (a b c : World)
     → AsksForFiles (file ∷ []) a b → Stays a b → FailedToRead a b file
@@ -83,7 +83,7 @@ one_failed file a b c asked stays rose none then fell =
       stays = stays_trans a b c stays then;
     }
 
--- it is too long
+-- it is longer than its limit
 pub one_long :
     (file : Named) (a b c : World)
     → AsksForFiles (file ∷ []) a b → Stays a b → IsLong a file
@@ -91,7 +91,7 @@ pub one_long :
 one_long file a b c asked stays long none then =
     record { stops = one_stops (IsLong a) file a c (none ∙ asked) long; stays = stays_trans a b c stays then }
 
--- all of some files were asked for when the host's memory ran out
+-- reads of all of some files were requested when the host's memory ran out
 pub unbegun : (files : List Named) (a b : World) → AsksForFiles files a b → Stays a b → SomeRead files a b
 unbegun files a b asked stays =
     record {
@@ -112,7 +112,7 @@ stops_front cause files more a b stops =
       cause = stops.cause;
     }
 
--- what stopped among the first files stopped among all of them
+-- a file that stops a call among the first files stops it among all of them
 pub unread_front : (files more : List Named) (a b : World) (s : Status) → WhyUnread files a b s
     → WhyUnread (files ++ more) a b s
 unread_front files more a b status.ReadFault why =
@@ -150,7 +150,7 @@ stops_more cause other done files a b c gives stays asked within stops =
       cause = gives stops.file stops.cause;
     }
 
--- what stopped after some files were read
+-- a file that stops a call after some files were read
 pub unread_more :
     (done files : List Named) (a b c : World) (s : Status)
     → Reads done a b → All (IsWithin a) done → WhyUnread files b c s → WhyUnread (done ++ files) a c s

@@ -1,4 +1,4 @@
--- How a line ends before its first round, from how its parts did.
+-- How a command line ends before its first round, from how its parts did.
 use Rattle.std.proofs.Common.{◌≡◌, ◌≤◌, ℕ, false, List, [], ◌∷◌, Option, Some, None, length, refl, ◌∙◌, inl, inr}
 use Rattle.std.proofs.lemmas.List.Elements.{All-cons, All-nil}
 use Rattle.elf_spec.specs.declared.TheConstants.{MOST_ELF_BYTES}
@@ -20,12 +20,12 @@ use Rattle.ith_commands.proofs.Worlds.{content_before, stays_trans}
 use Rattle.ith_commands.proofs.Asking.{within_reported, unbegun, unread_front, unread_more}
 use Rattle.ith_commands.proofs.Printing.{prints_then}
 
--- a file of a given refusal isn't taken
+-- a file with this refusal isn't accepted
 pub refused_image : (bytes : List ℕ) (refusal : Refusal) → refusal_of bytes ≡ Some refusal → is_image bytes ≡ false
 unfolding is_image
 refused_image bytes refusal is = rw is refl
 
--- what edit lists are said to hold later, they held before
+-- edit lists have the same stated contents before a change that keeps the files
 pub lists_before : (a b : World) (names : List Text) (lists : List (List ℕ)) → Stays a b → AreLists b names lists
     → AreLists a names lists
 lists_before a b [] [] stays are = tt
@@ -105,7 +105,7 @@ rerun_list_unread line a b c s memo reads read why =
     (within_reported (a.files line.memo) memo MOST_MEMO_BYTES read.content read.within) (All-nil (IsWithin a)))
     why
 
--- a line of which files weren't all read ends so, whatever else is refused
+-- a command line whose files weren't all read ends so, whatever else is refused
 pub unread_ends :
     (files : List Named) (image memo list : Type 0) (a b : World) (s : Status) → WhyUnread files a b s
     → EndsBy files image memo list a b s
@@ -127,7 +127,7 @@ refused_ends line a b contents status.Image reads are why =
 refused_ends line a b contents status.Memory reads are why = cut_ends (files_named (Runs line)) a b reads
 refused_ends line a b contents _ reads are why = absurd why
 
--- all files were read, and no history was had from the memo
+-- all files were read, and the memo gave no history
 pub forgotten_ends :
     (line : RerunLine) (a b : World) (memo : List ℕ) (lists : List (List ℕ)) (s : Status)
     → Reads (files_named (Reruns line)) a b → IsMemoContent a line.memo memo → AreLists a line.edits lists
@@ -186,7 +186,7 @@ rerun_unedited_ends line a b memo lists h status.Memory reads read reported is w
     cut_ends (files_named (Reruns line)) a b reads
 rerun_unedited_ends line a b memo lists h _ reads read reported is why = absurd why
 
--- the memo of a name was read, and no history was had from it
+-- the memo of a name was read, and it gave no history
 pub unremembered :
     (name : Text) (a b : World) (memo : List ℕ) (s : Status) → Reads (memo_named name ∷ []) a b
     → IsMemoContent a name memo → WhyNoHistory memo s → EndsEarly (Shows (as_show name)) a b s
@@ -202,7 +202,7 @@ unremembered name a b memo status.Memo reads read why =
 unremembered name a b memo status.Memory reads read why = cut_ends (memo_named name ∷ []) a b reads
 unremembered name a b memo _ reads read why = absurd why
 
--- after the host's memory ran out, what says so changes nothing
+-- once the host's memory ran out, a later change that requests no read keeps how the command line ends
 late_short : (line : Line) (a b c : World) → EndsLate line a b status.Memory → AsksNothing b c → Stays b c
     → EndsLate line a c status.Memory
 late_short (Runs line) a b c late none then =

@@ -1,4 +1,4 @@
--- How a line that tells why steps were executed ends.
+-- How a `why` command ends.
 use Rattle.std.proofs.Common.{◌≡◌, ◌+◌, ℕ, List, [], ◌∷◌, Option, Some, map, refl, sym, ap, subst, ◌∙◌}
 use Rattle.std.proofs.lemmas.List.{append-nil}
 use Rattle.machine_spec.specs.Setup.{Setup}
@@ -28,7 +28,7 @@ use Rattle.std.specs.Prelude.{Result, Ok, Err, IfOk}
 use Rattle.ith_commands.proofs.Worlds.{stays_same}
 use Rattle.ith_commands.proofs.OneText.{reported, unstated}
 
--- the host's memory ran out before a file was asked for
+-- the host's memory ran out before a read was requested
 pub explain_unasked : (line : ExplainLine) (a : World) → EndsEarly (Explains line) a a status.Memory
 explain_unasked line a =
     record {
@@ -41,7 +41,7 @@ explain_unasked line a =
       stays = stays_same a;
     }
 
--- the plan of the rerun that a line explains is the line's
+-- the plan of the rerun that a `why` command explains is the command's
 pub explain_prepared :
     (line : ExplainLine) (a b : World) (r : Result Planned Status)
     → IfOk r (λ p. IsPrepared (Reruns (as_rerun line)) a b (plan_said p))
@@ -110,7 +110,7 @@ one_input a name (list ∷ []) first [] input later reported edited is = absurd 
 one_input a name (list ∷ []) first (next ∷ other ∷ inputs) input later reported edited is = absurd edited.1
 one_input a name (list ∷ []) first (next ∷ []) input later reported edited is = let same : next ≡ input = cc in rw same refl
 
--- what the reasons of a line are
+-- the reasons of a `why` command
 explained_by : (line : ExplainLine) (a : World) (p : Plan) (text : List ℕ) → IsPlan (Explains line) a p
     → ReportsReasons p text → HasReasons line a
 explained_by line a p text is tells =
@@ -135,7 +135,7 @@ explained_by line a p text is tells =
       };
     }
 
--- how a line ends of whose round the reasons were told
+-- how a `why` command ends if the reasons were made
 pub explained_ends :
     (line : ExplainLine) (a b c : World) (p : Plan) (text : List ℕ)
     → IsPrepared (Explains line) a b p → ReportsReasons p text → AsksNothing b c → Prints b c text → IsExplained line a c
@@ -155,7 +155,7 @@ unfolding explained_by explained_ends
 explained_spent line a b c p text before after ready tells none prints cost =
     (explained_ends line a b c p text ready tells none prints, cost tells.input tells.later tells.first)
 
--- it wasn't told whole
+-- the text wasn't printed whole
 pub unexplained :
     (line : ExplainLine) (a b c : World) (p : Plan) (text : List ℕ) (s : Status)
     → IsPrepared (Explains line) a b p → ReportsReasons p text → AsksNothing b c → WhyUnprinted text b c s

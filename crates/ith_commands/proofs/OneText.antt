@@ -1,4 +1,4 @@
--- How a line ends of which one text is printed.
+-- How a command line ends that prints one text.
 use Rattle.std.proofs.Common.{ℕ, List, Option, ◌⊎◌, ◌∙◌, inl, inr}
 use Rattle.history_spec.specs.History.{History}
 use Rattle.history_spec.specs.Audit.{IsVerdict}

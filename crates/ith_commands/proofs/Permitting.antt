@@ -1,4 +1,4 @@
--- Schedules of which an entry isn't permitted, and the turns of those that are.
+-- Schedules with an entry that isn't permitted, and the turns of permitted ones.
 use Rattle.std.proofs.Common.{◌≡◌, ◌+◌, ◌<◌, ℕ, zero, suc, Bool, true, false, ◌&&◌, List, [], ◌∷◌, length, take, get_or, refl, ap, arith}
 use Rattle.machine_spec.specs.Machine.{Machine}
 use Rattle.machine_spec.specs.Step.{step, can_step}

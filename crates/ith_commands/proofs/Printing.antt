@@ -33,7 +33,7 @@ prints_both a b c one other first second =
       printed = appends-both a.printed b.printed c.printed one other first.printed second.printed;
     }
 
--- printing, and then a change that leaves files and printed bytes
+-- printing, and then a change that keeps files and printed bytes
 pub prints_then : (a b c : World) (bytes : List ℕ) → Prints a b bytes → Stays b c → Prints a c bytes
 prints_then a b c bytes prints stays =
     record {
@@ -42,7 +42,7 @@ prints_then a b c bytes prints stays =
       printed = subst (λ (reported : Option (List ℕ)). Appends a.printed reported bytes) (sym stays.printed) prints.printed;
     }
 
--- printing after a change that leaves files and printed bytes
+-- printing after a change that keeps files and printed bytes
 pub prints_after : (a b c : World) (bytes : List ℕ) → Stays a b → Prints b c bytes → Prints a c bytes
 prints_after a b c bytes stays prints =
     record {

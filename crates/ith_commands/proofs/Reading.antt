@@ -19,7 +19,7 @@ use Rattle.ith_commands.proofs.Asking.{unbegun, asked_both, lists_asked, lists_w
 abbrev pub texts_of : List (Bor (List ℕ)) → List Text
 texts_of names = map (λ name. name.now) names
 
--- the first so many lists were read
+-- the first of the lists were read
 pub record IsReading (a w : World) (names : List (Bor (List ℕ))) (place : ℕ) (lists : List (Vec ℕ Global)) :
     Type 0 where
   pub are : AreLists a (take place (texts_of names)) (bytes_of_each lists)
@@ -37,7 +37,7 @@ name_at : (names : List (Bor (List ℕ))) (place : ℕ) (name d : Bor (List ℕ)
 name_at names place name d within at = ap (λ (n : Bor (List ℕ)). n.now) at
     ∙ sym (get_or-map (λ (n : Bor (List ℕ)). n.now) names place d name.now within)
 
--- the names up to a place and the one there
+-- the names up to a place, and the one there
 next_name : (names : List (Bor (List ℕ))) (place : ℕ) (name d : Bor (List ℕ)) → place < length names
     → name ≡ get_or names place d
     → take (place + 1) (texts_of names) ≡ take place (texts_of names) ++ name.now ∷ []
@@ -47,7 +47,7 @@ next_name names place name d within at =
     take_more (texts_of names) place name.now inside
     ∙ ap (λ (t : Text). take place (texts_of names) ++ t ∷ []) (sym (name_at names place name d within at))
 
--- one list more was read
+-- one more list was read
 pub one_read :
     (a w v : World) (names : List (Bor (List ℕ))) (place : ℕ) (name d : Bor (List ℕ)) (lists : List (Vec ℕ Global))
     (list : Vec ℕ Global)
@@ -85,7 +85,7 @@ all_reads a w names place lists reading over =
       counts = reading.counts;
     }
 
--- and they hold what the lists hold
+-- and the contents of the lists are those that were read
 pub all_read :
     (a w : World) (names : List (Bor (List ℕ))) (place : ℕ) (lists : List (Vec ℕ Global))
     → IsReading a w names place lists → length names ≤ place → AreLists a (texts_of names) (bytes_of_each lists)
@@ -94,7 +94,7 @@ all_read a w names place lists reading over =
     length-map names (λ (n : Bor (List ℕ)). n.now) in omega arith in
     subst (λ (ns : List Text). AreLists a ns (bytes_of_each lists)) (take_all place (texts_of names) past) reading.are
 
--- one wasn't read, after the first so many were
+-- one wasn't read, after the first of the lists were
 pub one_unread :
     (a w v : World) (names : List (Bor (List ℕ))) (place : ℕ) (name d : Bor (List ℕ)) (lists : List (Vec ℕ Global))
     (s : Status)
@@ -115,7 +115,7 @@ one_unread a w v names place name d lists s reading within at why =
     (lists_within a front (bytes_of_each lists) reading.are)
     (unread_front (here ∷ []) (lists_named split.0) w v s why))
 
--- one was read, and then found no room
+-- one was read, and then there was no memory for it
 pub one_dropped :
     (a w v : World) (names : List (Bor (List ℕ))) (place : ℕ) (name d : Bor (List ℕ)) (lists : List (Vec ℕ Global))
     → IsReading a w names place lists → place < length names → name ≡ get_or names place d

@@ -1,4 +1,4 @@
--- How a line that replays a schedule ends, from how its parts did.
+-- How a `replay` command ends, from how its parts did.
 use Rattle.std.specs.Prelude.{Ok}
 use Rattle.schedule_list.specs.Schedule.{Says}
 use Rattle.std.proofs.Common.{◌≡◌, ◌+◌, ◌≤◌, ℕ, Bool, true, false, List, [], length, Option, Some, sym, ap, subst, ◌∙◌, inl, inr}
@@ -60,13 +60,13 @@ replay_refused line a b contents status.Image reads are why =
 replay_refused line a b contents status.Memory reads are why = cut_ends (files_named (Replays line)) a b reads
 replay_refused line a b contents _ reads are why = absurd why
 
--- why the text of a schedule says no threads
+-- why the text of a schedule encodes no threads
 pub unsaid_unreplayed : (setup : Setup) (text : List ℕ) (s : Status) → WhyNoThreads text s → WhyUnreplayed setup text s
 unsaid_unreplayed setup text status.Schedule why = (Token why.0, why.1)
 unsaid_unreplayed setup text status.Memory why = tt
 unsaid_unreplayed setup text _ why = absurd why
 
--- the executable was accepted, and the schedule comes to no end
+-- the executable is accepted, and the schedule comes to no end
 pub replay_endless :
     (line : ReplayLine) (a b c : World) (setup : Setup) (text : List ℕ) (s : Status)
     → IsAskedReplay line a b setup text → Quiet b c → WhyUnreplayed setup text s → Ends (Some (Replays line)) a c s
@@ -86,7 +86,7 @@ replay_endless line a b c setup text status.Memory is quiet why =
     inl (cut_ends (files_named (Replays line)) a c (reads_then (files_named (Replays line)) a b c is.reads quiet))
 replay_endless line a b c setup text _ is quiet why = absurd why
 
--- what there is to tell of a replay, part by part
+-- what is reported of a replay, part by part
 abbrev form : List Executed → Option End → ℕ → Memory → List ℕ → ReportData
 form entries ending instructions memory output =
     record {
@@ -99,7 +99,7 @@ form entries ending instructions memory output =
       output = output;
     }
 
--- what a schedule came to is told as the machine from scratch is
+-- the text of a replayed schedule is that of the machine from scratch
 pub replay_reported :
     (setup : Setup) (threads text : List ℕ) (o : Outcome)
     → IsOutcomeOf setup threads o → ReportsReplay threads o text → text ≡ replay_of setup threads
@@ -144,7 +144,7 @@ has_replay line a b setup said threads text o is says of tells =
       record { of = whole; is_text = replay_reported (replay_setup_of line is.contents) threads text o whole tells },
     )
 
--- it was told, and the counter rose by the turns of its steps
+-- it was printed, and the counter rose by the turns of its steps
 replayed :
     (line : ReplayLine) (a b d c : World) (setup : Setup) (said threads text : List ℕ) (o : Outcome) (exits : Bool)
     (before after : ℕ)
@@ -176,14 +176,14 @@ replay_spent line a b d c setup said threads text o true before after is quiet s
 replay_spent line a b d c setup said threads text o false before after is quiet says of tells none prints ends cost =
     replayed line a b d c setup said threads text o false before after is quiet says of tells none prints ends cost
 
--- so the line ends
+-- so the command line ends
 pub replay_ends :
     (line : ReplayLine) (a c : World) (before after : ℕ) (exits : Bool)
     → ReplaySpends line a c before after (status_in (Ok exits)) → Ends (Some (Replays line)) a c (status_in (Ok exits))
 replay_ends line a c before after true spent = inr spent.0
 replay_ends line a c before after false spent = inr spent.0
 
--- it wasn't told whole
+-- it wasn't printed whole
 pub replay_unprinted :
     (line : ReplayLine) (a b d c : World) (setup : Setup) (said threads text : List ℕ) (o : Outcome) (s : Status)
     → IsAskedReplay line a b setup said → Quiet b d → Says said (Ok threads) → IsOutcomeOf setup threads o

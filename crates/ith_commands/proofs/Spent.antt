@@ -1,4 +1,4 @@
--- If a line isn't done, nothing is said of the turns that were executed.
+-- If a command line isn't done, no claim is made of the turns that were executed.
 use Rattle.std.proofs.Common.{ℕ, Bool, List, Option, inl, inr}
 use Rattle.machine_spec.specs.Setup.{Setup}
 use Rattle.ith_host.specs.World.{World}

@@ -1,4 +1,4 @@
--- One change of the outside after another.
+-- One change of the world after another.
 use Rattle.std.proofs.Common.{◌≡◌, ◌<◌, ◌≤◌, ℕ, List, length, Option, refl, ◌∙◌, subst, arith}
 use Rattle.std.specs.Prelude.{IfSome}
 use Rattle.ith_host.specs.World.{World, Rose, NoneFell, Stays, IsContent}
@@ -31,26 +31,26 @@ reads_then files a b c reads quiet =
       counts = none_fell_trans a b c reads.counts quiet.counts;
     }
 
--- a count that rose has risen later too
+-- a count that rose has also risen later
 pub rose_then : (a b c : ℕ) → Rose a b → b ≤ c → Rose a c
 rose_then a b c rose later = omega arith
 
--- a count that rose later has risen from before too
+-- a count that rose from a later moment has also risen from an earlier one
 pub rose_before : (a b c : ℕ) → a ≤ b → Rose b c → Rose a c
 rose_before a b c earlier rose = omega arith
 
--- what a file is said to hold later, it held before
+-- a file has the same stated content before a change that keeps the files
 pub content_before : (a b : World) (name bytes : List ℕ) → Stays a b → IsContent b name bytes → IsContent a name bytes
 content_before a b name bytes stays content =
     subst (λ (files : List ℕ → Option (List ℕ)). IfSome (files name) (λ reported. reported ≡ bytes)) stays.files content
 
--- a told file that is too long later was so before
+-- a file that is too long after such a change was too long before it
 pub long_before : (a b : World) (file : Named) → Stays a b → IsLong b file → IsLong a file
 long_before a b file stays long =
     subst (λ (files : List ℕ → Option (List ℕ)). IfSome (files file.name) (λ reported. file.most < length reported)) stays.files
     long
 
--- and one that is within its limit
+-- and one within its limit was within it
 pub within_before : (a b : World) (file : Named) → Stays a b → IsWithin b file → IsWithin a file
 within_before a b file stays within =
     subst (λ (files : List ℕ → Option (List ℕ)). IfSome (files file.name) (λ reported. length reported ≤ file.most)) stays.files

@@ -2,7 +2,7 @@
 use Rattle.std.proofs.Common.{◌≡◌, ℕ, List, ◌++◌, Option, Some, None, append_assoc, sym, ap, ◌∙◌}
 use Rattle.std.specs.Io.KnownBytes.{Appends, Consumes}
 
--- what a sink got in two pieces
+-- the bytes that a sink got in two pieces
 pub Appends-more : (first second third : Option (List ℕ)) (xs ys zs : List ℕ) → Appends first second xs
     → Appends second third ys → zs ≡ xs ++ ys → Appends first third zs
 Appends-more None second third xs ys zs one two is = tt
@@ -11,7 +11,7 @@ Appends-more (Some a) (Some b) None xs ys zs one two is = absurd two
 Appends-more (Some a) (Some b) (Some c) xs ys zs one two is = two ∙ ap (λ s. s ++ ys) one ∙ append_assoc a xs ys
     ∙ ap (λ s. a ++ s) (sym is)
 
--- what a source gave in two pieces
+-- the bytes that a source gave in two pieces
 pub Consumes-more : (first second third : Option (List ℕ)) (xs ys : List ℕ) → Consumes first second xs
     → Consumes second third ys → Consumes first third (xs ++ ys)
 Consumes-more None second third xs ys one two = tt

@@ -1,4 +1,4 @@
--- Where nothing stands in its way, a line is done, or the host's memory ran out.
+-- If its files are stated and accepted, a command line is done, or the host's memory ran out.
 use Rattle.std.proofs.Common.{◌≡◌, ◌<◌, ◌≤◌, ℕ, true, false, List, [], ◌∷◌, ◌++◌, length, Option, Some, None, ◌⊎◌, inl, inr, refl, sym, ap, ◌∙◌, subst, arith}
 use Rattle.std.specs.Prelude.{IfSome, Ok, Err}
 use Rattle.elf_spec.specs.declared.TheConstants.{MOST_ELF_BYTES}
@@ -37,7 +37,7 @@ none_stops : (fact : Named → Type 0) (files : List Named) (a b : World) → Of
 none_stops fact files a b none stops =
     none_there fact stops.earlier stops.file stops.later (subst (OfNone fact) stops.are none) stops.cause
 
--- what a told file is said to hold, it holds
+-- a file whose content is stated has that content
 content-reported : (reported : Option (List ℕ)) (bytes content : List ℕ) → reported ≡ Some bytes → IfSome reported (λ t. t ≡ content)
     → bytes ≡ content
 content-reported reported bytes content is says = let h =
@@ -70,7 +70,7 @@ lists-short before (name ∷ names) [] is within = absurd is
 lists-short before (name ∷ names) (t ∷ reported) is within =
     (short-reported (before.files name) t MOST_LIST_BYTES is.0 within.0.1, lists-short before names reported is.1 within.1)
 
--- no file is too long that is told to be within its limit
+-- if the contents of all files are stated and within their limits, no file is too long
 run-short : (line : RunLine) (before : World) → AreAccepted line before
     → OfNone (IsLong before) (files_named (Runs line))
 run-short line before are = (
@@ -84,7 +84,7 @@ run-short line before are = (
 memo-short : (name : Text) (before : World) → IsAcceptedMemo name before → IsLong before (memo_named name) → ⊥
 memo-short name before is = short-reported (before.files name) is.memo MOST_MEMO_BYTES is.stated is.read.within
 
--- the only way in which writing or printing fails is by a fault
+-- writing and printing fail only by a fault
 unfailing :
     (line : Line) (before after : World) → HasNoFault line before after
     → IsUnprinted line before after ⊎ IsUnkept line before after → ⊥
@@ -97,7 +97,7 @@ unfailing line before after none fails =
           never unkept.cause
     ]
 
--- what is accepted as a memo of a history isn't refused
+-- a file that is accepted as a memo of a history isn't refused
 accepted-taken : (memo : List ℕ) (h : History) (why : MemoRefusal) → IsMemoOf memo h → reading memo ≡ Err why → ⊥
 accepted-taken memo h why is refused =
     let taken : reading memo ≡ Ok h = encoded_is_read memo h is in
@@ -110,8 +110,8 @@ unrefused name before memo why is read refused =
     let same : is.memo ≡ memo = content-reported (before.files name) is.memo memo is.stated read.content in
     accepted-taken is.memo is.history why is.accepted (ap reading same ∙ refused)
 
--- nothing stands in the way of a line of these files before anything is made for it: no file is too long that is told
--- to be within its limit, and none is refused
+-- nothing ends a command line of these files before anything is made for it: no file is too long, if its content is
+-- stated and within its limit, and none is refused
 record IsFree (files : List Named) (image memo list : Type 0) (before : World) : Type 0 where
   pub takes_image : image → ⊥
   pub takes_memo : memo → ⊥
@@ -145,7 +145,7 @@ completed line before after answer status.Memory is none ends = inr (inr (inl is
 completed line before after answer status.TooLarge is none ends = inr (inr (inr (is, ends)))
 completed line before after answer _ is none ends = absurd ends
 
--- or told whole
+-- or its text is printed whole
 listed :
     (whole part : Type 0) (answer : ℕ) (s : Status) → answer ≡ code_of s → (part → ⊥) → TextEnds whole part s
     → IsListed answer
@@ -178,7 +178,7 @@ run-free line before after are =
       short = run-short line before are;
     }
 
--- one memo, told, is of one history
+-- a memo is that of one history
 one-memo : (memo other : List ℕ) (h k : History) → memo ≡ other → IsMemoOf memo h → IsMemoOf other k → h ≡ k
 one-memo memo other h k same is also =
     one_history memo h k (is.format, is.encodes)
@@ -199,7 +199,7 @@ rerun-unlisted line before after are ends =
     (subst (λ (ls : List (List ℕ)). AreRerunInputs are.memo.history.setup.input ls are.inputs) lists are.edited) in
     rerun-unrefused ends.history.setup.input ends.lists are.inputs ends.place ends.why edited ends.refused
 
--- none of its files is too long that is told to be within its limit
+-- if the contents of all files of a rerun are stated and within their limits, none is too long
 rerun-short : (line : RerunLine) (before : World) → AreRerunAccepted line before
     → OfNone (IsLong before) (files_named (Reruns line))
 rerun-short line before are = (
@@ -230,7 +230,7 @@ memo-free name before after is =
       short = (memo-short name before is, tt);
     }
 
--- what a schedule to replay says and comes to isn't refused
+-- a schedule to replay whose threads are permitted and come to an end isn't refused
 schedule-unrefused :
     (setup : Setup) (text threads : List ℕ) (why : ScheduleRefusal) → CanBeReplayed setup text threads
     → RefusesSchedule setup text why → ⊥
@@ -248,7 +248,7 @@ schedule-unrefused setup text threads Incomplete can refused =
     let cut : is_complete setup refused.0 ≡ false = refused.3 in
     absurd (cc)
 
--- no file of a line that replays a schedule is too long that is told to be within its limit
+-- if the contents of all files of a replay are stated and within their limits, none is too long
 replay-short : (line : ReplayLine) (before : World) → IsReplayAccepted line before
     → OfNone (IsLong before) (files_named (Replays line))
 replay-short line before are = (
@@ -266,7 +266,7 @@ replay-short line before are = (
 abbrev with_contents : List ℕ → List ℕ → List ℕ → ReplayContents
 with_contents elf input schedule = record { elf = elf; input = input; schedule = schedule }
 
--- what was read of such a line is what it is told to be
+-- the contents that were read are the stated ones
 replay-same :
     (line : ReplayLine) (before : World) (are : IsReplayAccepted line before) (c : ReplayContents)
     → AreReplayContents before line c → are.contents ≡ c

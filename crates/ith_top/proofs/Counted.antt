@@ -1,4 +1,4 @@
--- How many rounds a line's workers made, from how its parts ended.
+-- How many rounds the workers of a command line made, from how its parts ended.
 use Rattle.std.proofs.Common.{◌≡◌, ◌+◌, ◌≤◌, ℕ, suc, max, Bool, true, false, List, [], ◌∷◌, length, Option, refl, ◌∙◌, inl, inr, ap, arith}
 use Rattle.std.specs.Prelude.{Result, Ok, Err, IfOk, IfErr}
 use Rattle.rerun_spec.proofs.Inputs.{inputs-count, rerun-count}
@@ -13,7 +13,7 @@ use Rattle.ith_commands.specs.Ends.{EndsEarly}
 use Rattle.ith_commands.specs.Refusals.{WhyUndone}
 use Rattle.ith_commands.specs.Playing.{IsCarriedOut}
 
--- as many lists are read as have names
+-- there are as many contents of lists as names
 lists_count : (a : World) (names : List Text) (lists : List (List ℕ)) → AreLists a names lists
     → length lists ≡ length names
 lists_count a [] [] are = refl
@@ -21,7 +21,7 @@ lists_count a [] (list ∷ lists) are = absurd are
 lists_count a (name ∷ names) [] are = absurd are
 lists_count a (name ∷ names) (list ∷ lists) are = ap (λ (n : ℕ). suc n) (lists_count a names lists are.1)
 
--- a plan has as many inputs as the line asks for rounds
+-- a plan has as many inputs as the command line requests rounds
 pub run_asked : (line : RunLine) (a : World) (p : Plan) → IsRunPlan line a p
     → length p.inputs ≡ rounds_asked (Runs line)
 run_asked line a p is =
@@ -77,7 +77,7 @@ counted_some line name workers p a b earlier later status.TooLarge count why =
 counted_some line name workers p a b earlier later _ count why =
     elim why [ inl part ↦ absurd part.why | inr after ↦ absurd after.why ]
 
--- as many as a line asks for were made if it is done, and no more if not
+-- as many rounds were made as a command line requests if it is done, and no more if not
 pub counted :
     (line : Line) (name : Option Text) (workers : ℕ) (p : Plan) (a b : World) (earlier later : Work) (r : Result Bool Status)
     → length p.inputs ≡ rounds_asked line → IfOk r (IsCarriedOut name workers p a b earlier later)

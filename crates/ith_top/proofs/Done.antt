@@ -1,4 +1,4 @@
--- How a line ends, from how its rounds did.
+-- How a command line ends, from how its rounds did.
 use Rattle.std.proofs.Common.{◌≡◌, Bool, ℕ, true, false, List, ◌++◌, Option, Some, None, length, take, refl, sym, ap, ◌∙◌, inl, inr, subst}
 use Rattle.std.specs.Prelude.{Result, Ok, Err, IfOk, IfErr}
 use Rattle.std.specs.List.{concat}
@@ -21,7 +21,7 @@ use Rattle.ith_commands.proofs.Printing.{prints_after, prints_then}
 use Rattle.ith_top.proofs.Promises.{promised_of, each_kept}
 use Rattle.ith_commands.proofs.Spent.{rounds_unspent}
 
--- the rounds of a line's plan, as far as they were found
+-- the rounds of a plan, as far as they were found
 pub rounds_in :
     (line : Line) (a b : World) (p : Plan) (found : List Found)
     → IsPrepared line a b p → AreFound (workers_of line) p found → HasRounds line a
@@ -37,7 +37,7 @@ rounds_in line a b p found ready are =
       kept = each_kept (workers_of line) p found ready.playable ready.encoded are;
     }
 
--- a file was kept after all was printed
+-- a file was written after all was printed
 pub printed_and_kept :
     (name : Text) (content : List ℕ) (a b c : World) (bytes : List ℕ)
     → Prints a b bytes → Keeps name content b c → PrintsAndKeeps (Some name) content a c bytes
@@ -50,7 +50,7 @@ printed_and_kept name content a b c bytes prints keeps =
           ∙ ap (λ (files : Text → Option (List ℕ)). files other) prints.files;
     }
 
--- and where nothing is to be kept
+-- and if no file is to be written
 pub printed_alone : (content : List ℕ) (a b : World) (bytes : List ℕ) → Prints a b bytes
     → PrintsAndKeeps None content a b bytes
 printed_alone content a b bytes prints =
@@ -61,7 +61,7 @@ printed_alone content a b bytes prints =
       others = λ other away. ap (λ (files : Text → Option (List ℕ)). files other) prints.files;
     }
 
--- printing and keeping after a change that leaves files and printed bytes
+-- printing and writing after a change that keeps files and printed bytes
 kept_after : (name : Option Text) (content : List ℕ) (a b c : World) (bytes : List ℕ) → Stays a b
     → PrintsAndKeeps name content b c bytes → PrintsAndKeeps name content a c bytes
 kept_after name content a b c bytes stays keeps =
@@ -72,7 +72,7 @@ kept_after name content a b c bytes stays keeps =
       others = λ other away. keeps.others other away ∙ ap (λ (files : Text → Option (List ℕ)). files other) stays.files;
     }
 
--- all rounds were made, and the memo of what the last one leaves was written, where it has a name
+-- all rounds were made, and the memo of the last one's history was written, if it has a name
 pub carried_out :
     (name : Option Text) (workers : ℕ) (p : Plan) (a b : World) (earlier later : Work) (exits : Bool) (left : History)
     (played : IsPlayed workers p a b earlier later exits left) (c : World)
@@ -92,7 +92,7 @@ carried_out name workers p a b earlier later exits left played c keeps within =
       are_exits = played.are_exits;
     }
 
--- and it was
+-- and the memo was written
 pub carried_and_kept :
     (name : Text) (workers : ℕ) (p : Plan) (a b c : World) (earlier later : Work) (exits : Bool) (left : History)
     → IsPlayed workers p a b earlier later exits left → Keeps name (memo left) b c
@@ -102,7 +102,7 @@ carried_and_kept name workers p a b c earlier later exits left played keeps with
     carried_out (Some name) workers p a b earlier later exits left played c
     (printed_and_kept name (memo left) a b c (concat (texts_of p played.found)) played.prints keeps) within
 
--- and none was asked for
+-- and no memo was requested
 pub carried_alone :
     (workers : ℕ) (p : Plan) (a b : World) (earlier later : Work) (exits : Bool) (left : History)
     → IsPlayed workers p a b earlier later exits left → IsCarriedOut None workers p a b earlier later exits
@@ -110,7 +110,7 @@ carried_alone workers p a b earlier later exits left played =
     carried_out None workers p a b earlier later exits left played b
     (printed_alone (memo left) a b (concat (texts_of p played.found)) played.prints) tt
 
--- and it wasn't
+-- and the memo wasn't written
 pub carried_unkept :
     (name : Text) (workers : ℕ) (p : Plan) (a b c : World) (earlier later : Work) (exits : Bool) (left : History)
     (why : Status)
@@ -245,7 +245,7 @@ undone line a b c p earlier later why ready none cause =
           after.made after.all after.counts after.is_named after.prints after.why
     ]
 
--- how a line ends whose rounds were begun
+-- how a command line ends whose rounds were started
 pub rounds_end :
     (line : Line) (a b c : World) (p : Plan) (earlier later : Work) (r : Result Bool Status)
     → IsPrepared line a b p → AsksNothing b c

@@ -1,4 +1,4 @@
--- How a line that runs the generated guest ends, from how its parts did.
+-- How a `gen` command ends, from how its parts did.
 use Rattle.std.proofs.Common.{◌≡◌, ◌+◌, ◌≤◌, ℕ, Bool, true, false, ◌&&◌, List, [], ◌∷◌, ◌++◌, length, map, Some, refl, sym, ap, subst, ◌∙◌, append_assoc, inl, inr, arith}
 use Rattle.std.specs.Prelude.{All, if◌then◌else◌, codes, decimal, Ok, Err}
 use Rattle.std.specs.List.{AllByRecursion, concat, list_all}
@@ -38,7 +38,7 @@ use Rattle.ith_commands.proofs.Asking.{unbegun}
 use Rattle.ith_commands.proofs.Printing.{in_part}
 use Rattle.ith_top.proofs.Promises.{promised_from_scratch, promised_of, each_kept}
 
--- the line of a round that was made soundly is that of the machine from scratch
+-- the line of a round that was soundly made is that of the machine from scratch
 short_made : (workers : ℕ) (r : Round) → IsSoundlyMade workers r → made_short r ≡ short_of r
 unfolding short_text
 short_made workers r is = ap (λ (m : Machine). short_text r.number (record {
@@ -118,7 +118,7 @@ generated_plan number g s p is same begins edited =
           (subst (λ (l : List ℕ). AreInputs g.input.items (l ∷ []) p.inputs) is.edits edited);
     }
 
--- one list of edits makes one input more
+-- one list of edits makes one more input
 one_more :
     (first list input next : List ℕ) (rest inputs : List (List ℕ))
     → inputs ≡ input ∷ next ∷ rest → AreInputs first (list ∷ []) inputs → inputs ≡ input ∷ next ∷ []
@@ -144,7 +144,7 @@ and-true : (b : Bool) → (b && true) ≡ b
 and-true true = refl
 and-true false = refl
 
--- two rounds, of which the second goes by what the first left
+-- two rounds, of which the second is based on the history of the first
 record TwoRounds (workers : ℕ) (s : Setup) (input next : List ℕ) (t u : ℕ) (one other : List ℕ) (exit ended : Bool) : Type 0
   where
     pub first : Round
@@ -296,14 +296,14 @@ generate_spent line a b earlier later text true none is prints =
 generate_spent line a b earlier later text false none is prints =
     generated_by line a b earlier later text false none is prints
 
--- so the line ends
+-- so the command line ends
 pub generate_ends :
     (line : GenerateLine) (a b : World) (earlier later : Work) (exits : Bool)
     → GenerateSpends line a b earlier later (status_in (Ok exits)) → Ends (Some (Generates line)) a b (status_in (Ok exits))
 generate_ends line a b earlier later true spent = inr spent.0
 generate_ends line a b earlier later false spent = inr spent.0
 
--- and as many rounds were made as it asks for
+-- and as many rounds were made as it requests
 pub generate_made :
     (line : GenerateLine) (earlier later : Work) (text : List ℕ) (exits : Bool)
     → AreTheGenerated line.workers line.number earlier later text exits

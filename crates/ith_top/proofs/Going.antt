@@ -1,4 +1,4 @@
--- Rounds on their way: those that were made were printed, and the rest is to come.
+-- Rounds that are being made: those so far were printed, and the others are still to come.
 use Rattle.std.proofs.Common.{◌≡◌, ◌+◌, ◌≤◌, ℕ, suc, Bool, true, false, ◌&&◌, List, [], ◌∷◌, ◌++◌, length, take, map, slice_get, Option, Some, None, refl, ap, sym, subst, ◌∙◌, append_assoc, arith}
 use Rattle.std.specs.Prelude.{All}
 use Rattle.std.specs.List.{AllByRecursion, concat, list_all}
@@ -26,7 +26,7 @@ use Rattle.ith_commands.proofs.Worlds.{none_fell_trans, rose_before}
 use Rattle.ith_commands.proofs.Printing.{prints_none, prints_both}
 
 -- the rounds so far were made and printed, and the counter rose by their turns, from one number to the other; and those
--- to come, whatever is found of them, begin where the last one left off
+-- to come, whatever is found of them, begin where the last one ended
 pub record IsGoing (b : Beginning) (workers : ℕ) (inputs : List (List ℕ)) (a w : World) (t u : ℕ) (now : Beginning)
     (rest : List (List ℕ)) (exit : Bool) : Type 0 where
   pub found : List Found
@@ -61,12 +61,12 @@ get-next : (front : List (List ℕ)) (next : List ℕ) (back : List (List ℕ))
 get-next [] next back = refl
 get-next (x ∷ front) next back = get-next front next back
 
--- of as many inputs as rounds are to come none is left after the last
+-- after the last round, no input remains
 pub none_left : (rest : List (List ℕ)) (place all : ℕ) → place + length rest ≡ all → all ≤ place → rest ≡ []
 none_left [] place all count past = refl
 none_left (input ∷ rest) place all count past = let no : ⊥ = omega arith in absurd no
 
--- what was found of a line's rounds, and what they come to
+-- the plan of a beginning and inputs
 abbrev of_line : Beginning → List (List ℕ) → Plan
 of_line b inputs = record { beginning = b; inputs = inputs }
 
@@ -148,7 +148,7 @@ all-more :
 all-more fact [] r all one = (one, tt)
 all-more fact (first ∷ rounds) r all one = (all.0, all-more fact rounds r all.1 one)
 
--- what is known of it, before it is printed
+-- what is known of the next round before it is printed
 record HasNext (b : Beginning) (workers : ℕ) (inputs : List (List ℕ)) (now : Beginning) (input : List ℕ)
     (rest : List (List ℕ)) (found : List Found) (done : List Round) (f : Found) : Type 0 where
   pub count : length (found ++ f ∷ []) + length rest ≡ length inputs
@@ -226,7 +226,7 @@ going_next b workers inputs a w v t u o now next input rest exit text ended goin
       asked = asked ∙ going.asked;
     })
 
--- all were made and printed, and what the last one left is what the rounds to come would go by
+-- all were made and printed, and the later rounds would be based on the last one's history
 pub going_played :
     (b : Beginning) (workers : ℕ) (inputs : List (List ℕ)) (a w : World) (now : Beginning) (rest : List (List ℕ))
     (exit : Bool) (left : History) (earlier later : Work)
@@ -249,7 +249,7 @@ going_played b workers inputs a w now rest exit left earlier later none past goi
       is_left = sym is ∙ ap history_at (sym (going-after b workers inputs a w earlier.turns later.turns now rest exit going));
     }
 
--- no more was made
+-- no other round was made
 pub going_cut :
     (b : Beginning) (workers : ℕ) (inputs : List (List ℕ)) (a w : World) (t u : ℕ) (now : Beginning)
     (rest : List (List ℕ)) (exit : Bool) (earlier later : Work)
@@ -343,7 +343,7 @@ going_unprinted b workers inputs a w v t u o now input rest exit text ended next
 going_unprinted b workers inputs a w v t u o now input rest exit text ended next earlier later _ going one count most cause =
     absurd cause
 
--- of short inputs the first is short, and so are the others
+-- if all inputs are short, so is the first, and so are the others
 pub short_first : (input : List ℕ) (rest : List (List ℕ)) → AreShort (input ∷ rest) → length input ≤ MOST_INPUT_BYTES
 short_first input rest short = (recursion_from_All (λ i. length i ≤ MOST_INPUT_BYTES) (input ∷ rest) short).0
 

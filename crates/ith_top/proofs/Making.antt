@@ -1,4 +1,4 @@
--- A round as its workers made it, and the page map of what it goes by and leaves.
+-- A round as its workers made it, and the page map of its history and of the one that it is based on.
 use Rattle.std.proofs.Common.{◌≡◌, ◌+◌, ℕ, Bool, true, List, length, Option, Some, None, ap, sym, ◌∙◌, subst}
 use Rattle.elf_spec.specs.Image.{image_pages}
 use Rattle.thunk_spec.specs.Record.{Record}
@@ -25,7 +25,7 @@ use Rattle.ith_top.specs.Making.{text_by, round_text_by, IsMadeOn}
 use Rattle.ith_top.specs.declared.report.Form.{Form}
 use Rattle.ith_top.specs.declared.report.Form.TheVariants as form
 
--- what is told of a round, part by part
+-- what is reported of a round, part by part
 abbrev data_of : Machine → List Entry → Extras → List Record → List ℕ → ReportData
 data_of m schedule extras records worker_steps =
     record {
@@ -70,7 +70,7 @@ alike-reported r w extras worker_steps alike =
     ∙ ap (λ (es : List Entry). data_of (made r).machine es extras w.records worker_steps) (sym alike.schedule)
     ∙ ap (λ (rs : List Record). data_of (made r).machine (made r).schedule extras rs worker_steps) (sym alike.records)
 
--- and so is what is told of it only if it is asked for
+-- and so is what is reported of it only on request
 alike-extras :
     (r : Round) (w : RoundState) → IsAlike r w → extras_of r.asked w.past w.setup r.found.progress ≡ made_extras r
 alike-extras r w alike =
@@ -97,7 +97,7 @@ alike-cost workers r w alike cost =
       idle = cost.idle;
     }
 
--- and so is the text that tells of it
+-- and so is the text of its report
 alike-text :
     (way : Form) (r : Round) (w : RoundState) (text : List ℕ) → IsAlike r w
     → text ≡ text_by way r.number (data_as_made w (extras_of r.asked w.past w.setup r.found.progress) r.found.worker_steps)
@@ -110,7 +110,7 @@ alike-text form.Report r w text alike is =
 alike-text form.Line r w text alike is =
     is ∙ ap (short_text r.number) (alike-reported r w no_extras r.found.worker_steps alike)
 
--- what workers made of a round, its text, its end and what it leaves
+-- what workers made of a round: its text, its end and its history
 pub made_on :
     (workers : ℕ) (way : Form) (b : Beginning) (input : List ℕ) (w : RoundState) (f : Found) (t u : ℕ) (text : List ℕ)
     (exit : Bool) (next : Beginning)
@@ -147,7 +147,7 @@ of_same_elf : (past : Option History) (s t : Setup) → s.elf ≡ t.elf → IsOf
 of_same_elf None s t same is = tt
 of_same_elf (Some h) s t same is = is ∙ same_image s t (ap image_pages same)
 
--- a round that goes by a history of its page map stays on it
+-- a round that is based on a history of its page map stays on that map
 pub round_map :
     (b : Beginning) (input : List ℕ) (w : RoundState) → w.setup ≡ with_input b.setup input → w.past ≡ b.past
     → IsOfMap b.past b.setup → IsOfMap w.past w.setup
@@ -155,7 +155,7 @@ round_map b input w setup past is =
     subst (λ (p : Option History). IsOfMap p w.setup) (sym past)
     (of_same_elf b.past b.setup w.setup (sym (ap (λ (s : Setup). s.elf) setup)) is)
 
--- and leaves a history of it
+-- and its own history is of that map
 pub left_map :
     (workers : ℕ) (way : Form) (b : Beginning) (input : List ℕ) (t u : ℕ) (text : List ℕ) (exit : Bool) (next : Beginning)
     → IsMadeOn workers way b input t u text exit next → IsOfMap next.past next.setup

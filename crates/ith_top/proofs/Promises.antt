@@ -1,4 +1,4 @@
--- What is promised of the rounds of a plan.
+-- The promises on the rounds of a plan.
 use Rattle.std.proofs.Common.{◌≡◌, ◌<◌, ◌≤◌, arith, ℕ, List, [], ◌∷◌, Option, Some, None, length, sym, ap, ◌∙◌, subst}
 use Rattle.std.specs.Prelude.{All, slice_get}
 use Rattle.std.specs.List.{AllByRecursion}
@@ -28,7 +28,7 @@ use Rattle.ith_commands.specs.Rounds.{IsPromised, ArePromised, BeginsHonestly, C
 use Rattle.ith_commands.specs.Ends.{left_of}
 use Rattle.ith_commands.specs.Playing.{AreFound, CanBePlayed, CanBeEncoded}
 
--- what is promised of a round holds of each that was made by a history that it can go by
+-- the promises on a round hold of each that was soundly made
 promised : (workers : ℕ) (r : Round) → IsSoundlyMade workers r → IsPromised workers r
 promised workers r is =
     record {
@@ -54,12 +54,12 @@ again_repeats : (workers : ℕ) (h : History) (r : Round) → IsAgain h r → Is
 again_repeats workers h r again made =
     record { reuses = again-reuses workers h r again made; instructions = again-instructions workers h r again made }
 
--- a first round on the very setup of the history that it goes by
+-- if the first round has the setup of the history that it is based on, it only repeats that history
 abbrev Unedited : Beginning → List (List ℕ) → List Found → Type 0
 Unedited b inputs found = (r : Round) (h : History) → slice_get (rounds_after b inputs found) 0 ≡ Some r
     → r.past ≡ Some h → r.setup ≡ h.setup → OnlyRepeats h r
 
--- what is promised of rounds holds of those of a beginning of which rounds may be made
+-- the promises on rounds hold of those of a beginning whose rounds may be made
 promised_after :
     (workers : ℕ) (b : Beginning) (inputs : List (List ℕ)) (found : List Found)
     → CanBegin b → AreShort inputs → All (IsMade workers) (rounds_after b inputs found) → Unedited b inputs found
@@ -80,14 +80,14 @@ promised_after workers b inputs found can short made unedited =
       unedited = unedited;
     }
 
--- from scratch there is no history to go by
+-- from scratch there is no history to be based on
 none_unedited :
     (s : Setup) (asked : Asked) (inputs : List (List ℕ)) (found : List Found)
     → Unedited (from_scratch s asked) inputs found
 none_unedited s asked inputs found r h first past same =
     let none : None ≡ Some h = sym (first-past (from_scratch s asked) inputs found r first) ∙ past in absurd (cc)
 
--- after a memo there is the memo's
+-- after a memo there is the memo's history
 memo_unedited :
     (workers : ℕ) (h : History) (limits : Limits) (asked : Asked) (inputs : List (List ℕ)) (found : List Found) → IsHonest h
     → All (IsMade workers) (rounds_after (after_memo h limits asked) inputs found)
@@ -120,7 +120,7 @@ promised_from_scratch workers s asked p found begins playable encoded are =
     (promised_after workers (from_scratch s asked) p.inputs found (scratch-begins s asked valid) playable.short made
     (none_unedited s asked p.inputs found))
 
--- rounds that go by a memo
+-- rounds that are based on a memo
 promised_rerun :
     (line : RerunLine) (a : World) (p : Plan) (found : List Found)
     → IsRerunPlan line a p → CanBePlayed p → CanBeEncoded p → AreFound line.workers p found
@@ -137,7 +137,7 @@ promised_rerun line a p found is playable encoded are honest =
     (promised_after line.workers (after_memo h limits (asked_by line.reach line.progress)) p.inputs found
     (memo-begins h limits (asked_by line.reach line.progress) true_of valid.limits) playable.short made (memo_unedited line.workers h limits (asked_by line.reach line.progress) p.inputs found true_of made))
 
--- the rounds of a line begin with what its plan says
+-- the rounds of a command line begin as its plan states
 pub promised_of :
     (line : Line) (a : World) (p : Plan) (found : List Found)
     → IsPlan line a p → CanBePlayed p → CanBeEncoded p → AreFound (workers_of line) p found
@@ -193,7 +193,7 @@ each_kept workers p found playable encoded are =
     (recursion_from_All AreBytes p.inputs encoded.inputs)
     (recursion_from_All (IsMade workers) (rounds_of p found) are.made))
 
--- so what the last one leaves can be encoded
+-- so the last one's history can be encoded
 last_kept :
     (b : Beginning) (inputs : List (List ℕ)) (found : List Found) → 0 < length inputs → length found ≡ length inputs
     → AllByRecursion CanBeKept (rounds_after b inputs found)

@@ -1,4 +1,4 @@
--- A command to which arguments were added in turn has their rules, in their order.
+-- A command to which arguments were added one after the other has their rules, in their order.
 use Rattle.std.proofs.Common.{◌≡◌, List, [], ◌∷◌, ◌++◌, All, false, map, refl, sym, ap, ◌∙◌, subst}
 use Rattle.std.proofs.lemmas.List.Elements.{All-head, All-tail, All-push}
 use Rattle.clap.specs.Words.{AddsArg, AddsInTurn, App, app_of, rule_of}
@@ -28,7 +28,7 @@ globals_in_turn old new (arg ∷ args) local (between, adds, rest) none =
     let others = All-tail (λ a. a.global ≡ false) arg args local in
     globals_in_turn between new args others rest (rw (adds.globals, none, here) refl)
 
--- one argument more, of this command alone
+-- one more argument, of this command alone
 pub local_push :
     (args more : List Arg) (arg : Arg) → more ≡ args ++ arg ∷ []
     → All (λ (a : Arg). a.global ≡ false) args → arg.global ≡ false → All (λ (a : Arg). a.global ≡ false) more

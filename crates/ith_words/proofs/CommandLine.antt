@@ -1,4 +1,4 @@
--- The program's command line is of the kind whose faults and findings the parser promises.
+-- The program's command line is of the kind for which the parser promises faults and findings.
 use Rattle.std.proofs.Common.{◌≡◌, true, refl}
 use Rattle.clap.specs.Simple.{is_simple}
 use Rattle.clap.specs.Words.{is_simple_and_free}

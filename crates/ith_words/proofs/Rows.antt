@@ -1,4 +1,4 @@
--- What the readers of the parser's findings give, by the rows that the definitions speak of.
+-- What the readers of the parser's findings give, by the rows that the definitions name.
 use Rattle.std.proofs.Common.{◌≡◌, ◌<◌, ◌≤◌, ◌^◌, ◌&&◌, ℕ, Bool, cond, true, false, List, Option, Some, None, refl, ap, ◌∙◌, arith, nat_lt, true≢false}
 use Rattle.std.specs.Prelude.{nat_le, is_some, option_map, unwrap_or}
 use Rattle.std.specs.Str.{bytes_eq}
@@ -21,7 +21,7 @@ first_value_of_rows = first_value-rows
 pub values_of_rows : (f : Found) (id : Text) → option_map raw_values (matched_of f id) ≡ all_of id (rows_of f)
 values_of_rows = raw_values-rows
 
--- the number that a text writes
+-- the number that a text encodes
 abbrev value : Text → ℕ
 value text = digits_value 10 (without_leading_plus text)
 
@@ -29,7 +29,7 @@ value text = digits_value 10 (without_leading_plus text)
 abbrev pub IsNumber : Text → Type 0
 IsNumber text = IsNumeral 10 (without_leading_plus text) × (value text < 2 ^ 32)
 
--- the parser's test of a numeral takes such a text
+-- such a text passes the parser's test of a numeral
 numeral : (text : Text) → IsNumber text → is_numeral (without_leading_plus text) ≡ true
 numeral text number =
     let small : value text < 2 ^ 64 = let h = number.1 in omega arith in
@@ -37,7 +37,7 @@ numeral text number =
     let least : 0 ≤ value text = omega arith in
     (both _ _ (Accepts-accepts false (parser.Unsigned 0 18446744073709551615) text (number.0, small, least, most))).0
 
--- the number that is taken: this one where it lies from the least to the most
+-- the number that is accepted: this one if it lies from the least to the most
 abbrev pub taken : ℕ → ℕ → ℕ → Option ℕ
 taken least most n = cond (nat_le least n && nat_le n most) (Some n) None
 
@@ -49,7 +49,7 @@ taken_text least most text n number is =
     let small : nat_lt (value text) (2 ^ 64) ≡ true = let h = number.1 in lt-ltb _ _ (omega arith) in
     rw (is, numeral text number, small) refl
 
--- of a text that is none
+-- of a text that is no number
 left_text : (least most : ℕ) (text : Text) → most < 2 ^ 32 → (IsNumber text → ⊥) → None ≡ number_given least most (Some text)
 left_text least most text fits none = go (is_unsigned_in least most text) refl
   where
@@ -60,7 +60,7 @@ left_text least most text fits none = go (is_unsigned_in least most text) refl
         let within = accepted.3 in
         absurd (none (accepted.0, omega arith))
 
--- the number of an option, where the parser's reader gave one
+-- the number of an option if the parser's reader gave one
 pub number_read :
     (least most : ℕ) (f : Found) (id : Text) (n : ℕ)
     → (one_text f id ≡ None → Some n ≡ None) → ((t : List ℕ) → one_text f id ≡ Some t → IsNumber t × (n ≡ value t))
@@ -74,7 +74,7 @@ number_read least most f id n none some = go (one_text f id) none some ∙ ap (n
         let is = number text refl in
         taken_text least most text n is.0 is.1
 
--- and where it gave none
+-- and if it gave none
 pub number_unread :
     (least most : ℕ) (f : Found) (id : Text)
     → most < 2 ^ 32 → ((t : List ℕ) → one_text f id ≡ Some t → IsNumber t → ⊥)
@@ -85,7 +85,7 @@ number_unread least most f id fits some = go (one_text f id) some ∙ ap (number
     go None none = refl
     go (Some text) none = left_text least most text fits (none text refl)
 
--- which number is taken, by where it lies
+-- which number is accepted, by the range that it lies in
 pub taken_within : (least most n : ℕ) → least ≤ n → n ≤ most → Some n ≡ taken least most n
 taken_within least most n some within = rw (le-leb least n some, le-leb n most within) refl
 
@@ -95,11 +95,11 @@ taken_below least most n none = rw (lt-leb least n none) refl
 pub taken_above : (least most n : ℕ) → least ≤ n → most < n → None ≡ taken least most n
 taken_above least most n some above = rw (le-leb least n some, lt-leb n most above) refl
 
--- a text was read as a truth value, or names none
+-- a text was read as a truth value, or encodes none
 abbrev pub IsRead : Type 0 → Text → Option Bool → Type 0
 IsRead E text given = ReadsOne {T = Bool} {E = E} ParsesBool text given
 
--- it is the word true where it was read as true
+-- the text is the word true if it was read as true
 flag_text :
     (E : Type 0) (text : Text) (given : Option Bool)
     → IsRead E text given → unwrap_or given false ≡ flag_given (Some text)

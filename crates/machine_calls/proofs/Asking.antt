@@ -1,4 +1,4 @@
--- What a ready thread's call may count on.
+-- What the call of a ready thread may assume.
 use Rattle.std.proofs.Common.{◌≡◌, ◌<◌, ◌≤◌, ◌+◌, ℕ, Bool, true, List, length, ◌∙◌, arith}
 use Rattle.guest_call.specs.declared.Call.{Call}
 use Rattle.guest_call.specs.declared.thread_number.TheConstants.{THREADS}
@@ -10,7 +10,7 @@ use Rattle.machine_spec.specs.Whole.{IsTied, IsWhole}
 use Rattle.machine_spec.proofs.Harts.{ready-below, blocked_count-ready}
 use Rattle.machine_spec.proofs.Steps.{hart-at}
 
--- it exists
+-- the thread exists
 pub below : (hs : List Hart) (t : ℕ) → is_ready (hart_in hs t).status ≡ true → t < length hs
 below hs t ready = ready-below hs t ready
 

@@ -11,7 +11,7 @@ use Rattle.machine_spec.specs.declared.states.Asked.TheVariants.{Asks, Stops}
 use Rattle.machine_spec.specs.Step.{advanced, written, asked, end_after, done_as_asked, finished}
 use Rattle.machine_calls.specs.Doing.{harts_after, objects_after, own_end}
 
--- what was asked is done part by part
+-- what was requested is done part by part
 done-parts :
     (m : Machine) (t : ℕ) (a : Asked)
     → done_as_asked m t a

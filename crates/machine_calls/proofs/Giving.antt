@@ -82,7 +82,7 @@ joined : (value : Option ℕ) → Few (joins value)
 joined None = omega arith
 joined (Some v) = omega arith
 
--- a mutex with an owner admits nobody
+-- a mutex with an owner admits no thread
 admits_none : (threads : List ℕ) (owner : ℕ) (queue : List ℕ)
     → (admit_each threads (record { owner = Some owner; queue = queue })).0 ≡ []
 admits_none [] owner queue = refl
@@ -123,7 +123,7 @@ join t u members =
     (either (u == t) _ _ (omega arith)
     (either (is_some (member_at members u).joiner) _ _ (omega arith) (joined (member_at members u).value)))
 
--- Views that are too few for the caller, for those who are woken and for a thread that is created are fewer than are
+-- If there are fewer views than the caller, the woken threads and a created thread need, there are fewer than were
 -- made.
 pub gives_few :
     (readable : ℕ → ℕ → Bool) (o : Objects) (t : ℕ) (call : Call) (views : ℕ)

@@ -84,7 +84,7 @@ some-number (h ∷ hs) any =
     ]
     any
 
--- where a thread is ready, one is chosen
+-- if a thread is ready, one is chosen
 pub choice-some : (m : Machine) → list_any (λ (h : Hart). is_ready h.status) m.harts ≡ true → is_some (choice m) ≡ true
 unfolding choice
 choice-some m any =
@@ -131,7 +131,7 @@ pub step-steps : (m : Machine) (t : ℕ) → (step m t).steps ≡ suc m.steps
 unfolding step
 step-steps m t = finished-steps m t _ _ _ _
 
--- what holds of a schedule by the choice from a machine on
+-- the schedule of the choice, from a machine on, is permitted and complete
 record IsRun (m : Machine) (schedule : List ℕ) : Type 0 where
   pub permitted : is_permitted_from m schedule ≡ true
   pub complete : is_complete_from m schedule ≡ true

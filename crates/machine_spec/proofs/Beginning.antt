@@ -84,7 +84,7 @@ IsMemory-start s =
           pages-stack_memory;
     }
 
--- at the opening nobody waits and nobody has ended
+-- at the start no thread waits and none has ended
 IsTied-opening : (h : Hart) → h.status ≡ Ready → IsTied opening (h ∷ [])
 IsTied-opening h ready =
     record {
@@ -176,7 +176,7 @@ at_most-image bytes accepted =
     recursion_from_All (λ (p : Mapped). p.number ≤ 0xBFFFF) (image_pages bytes)
     (λ k d below. let inside = (pages_inside bytes accepted k d below).1 in omega arith)
 
--- the pages of a setup stand in ascending order
+-- the pages of a setup are in ascending order
 pub ascends-map_of : (s : Setup) → IsSetup s → ascends_above 0 (map_of s) ≡ true
 unfolding map_of
 ascends-map_of s sound =

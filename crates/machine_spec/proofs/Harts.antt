@@ -1,4 +1,4 @@
--- What performing an effect leaves of each hart.
+-- What performing an effect does to each hart.
 use Rattle.std.proofs.Common.{◌≡◌, ◌≢◌, ◌<◌, ◌≤◌, ◌+◌, ℕ, zero, suc, Bool, true, false, eqb, cond, List, [], ◌∷◌, ◌++◌, length, get_or, set, Option, Some, None, refl, ap, sym, ◌∙◌, inl, inr, arith}
 use Rattle.std.proofs.lemmas.Bool.{cases_eq, cases_lt, eq-eqb}
 use Rattle.std.proofs.lemmas.Bool.Decides.{nat_tests}
@@ -57,7 +57,7 @@ blocked-below hs u h =
           (let none : hart_in hs u ≡ nobody = hart_in-past hs u past in let impossible = rw none at h in omega arith)
     ]
 
--- writing a hart with the status that was there changes no status
+-- writing a hart with an unchanged status changes no status
 pub status-set :
     (hs : List Hart) (t u : ℕ) (h : Hart)
     → h.status ≡ (hart_in hs t).status
@@ -75,7 +75,7 @@ length-woken memory reported (v ∷ us) hs =
     length-woken memory reported us (set hs v (returned memory 0 reported (hart_in hs v)))
     ∙ length-set hs v (returned memory 0 reported (hart_in hs v))
 
--- who isn't woken stays
+-- a thread that isn't woken stays as it is
 pub woken-stays :
     (memory : Memory) (reported : Option ℕ) (us : List ℕ) (hs : List Hart) (u : ℕ)
     → places u us ≡ 0
@@ -91,7 +91,7 @@ woken-stays memory reported (v ∷ us) hs u none =
           ∙ get_or-set_other hs v u (returned memory 0 reported (hart_in hs v)) nobody (λ e. other (sym e))
     ]
 
--- who is woken was blocked, and is blocked no more
+-- a woken thread was blocked, and isn't any more
 pub woken-blocked :
     (memory : Memory) (reported : Option ℕ) (us : List ℕ) (hs : List Hart) (u : ℕ)
     → places u us ≤ blocked_count (hart_in hs u).status
@@ -132,7 +132,7 @@ woken-blocked memory reported (v ∷ us) hs u h =
           omega arith
     ]
 
--- who is woken has not ended, before and after
+-- a woken thread has not ended, before and after
 pub woken-ended :
     (memory : Memory) (reported : Option ℕ) (us : List ℕ) (hs : List Hart) (u : ℕ)
     → places u us ≤ blocked_count (hart_in hs u).status
@@ -178,7 +178,7 @@ created-stays memory None hs u below = refl
 created-stays memory (Some c) hs u below =
     get_or_append_left hs (first_hart memory (length hs) c.0 c.1 ∷ []) nobody u below
 
--- a ready hart at the end is no more blocked than nobody
+-- one more ready hart changes no count of blocked threads
 push-blocked :
     (hs : List Hart) (u : ℕ) (h : Hart)
     → h.status ≡ Ready
@@ -207,7 +207,7 @@ created-last memory (Some c) hs u past below =
     let last : u ≡ length hs = omega arith in
     rw last (ap (λ (x : Hart). ended_value x.status) (push-last hs (first_hart memory (length hs) c.0 c.1)))
 
--- what the caller's fate makes of its status
+-- how the caller's fate changes its status
 pub fated-blocked :
     (f : Fate) (memory : Memory) (h : Hart)
     → is_ready h.status ≡ true

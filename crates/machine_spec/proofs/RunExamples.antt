@@ -143,7 +143,7 @@ unfolding step finished thunk turn fetched number_at number_in permission_at dec
     bytes_stored with_byte first_registers all_unlocked choice
 late-created = refl
 
--- Two threads whose views are from before each other's store: both bytes stand.
+-- Two threads whose views are from before each other's store: both bytes are kept.
 pub bytes-permitted : is_permitted_from (begins 9 9 bytes) (0 ∷ 0 ∷ 1 ∷ 2 ∷ 0 ∷ 0 ∷ 0 ∷ 0 ∷ []) ≡ true
 unfolding step finished thunk turn fetched number_at number_in permission_at decoded reading_of u_immediate i_immediate
     s_immediate immediate_result shift_result register_result with_register is_readable put_addresses loaded may_store
@@ -171,7 +171,7 @@ unfolding step finished thunk turn fetched number_at number_in permission_at dec
     bytes_stored with_byte first_registers all_unlocked choice
 cross-outcome = refl
 
--- By another schedule all goes well.
+-- By another schedule the run exits.
 pub cross-other :
     outcome (scratch_from (begins 9 20 cross) (0 ∷ 0 ∷ 0 ∷ 0 ∷ 0 ∷ 1 ∷ 1 ∷ 1 ∷ 1 ∷ 1 ∷ 0 ∷ 0 ∷ []))
     ≡ (Some (Exit 0), 12, [])

@@ -71,7 +71,7 @@ sleeper = record { view = (1 ∷ []) ∷ []; regs = first_registers 1 0x10008 5;
 abbrev pub small_hart : Hart
 small_hart = first_hart ((1 ∷ []) ∷ []) 0 0x10000 0
 
--- Who is woken has 0 in a0, what it is told in a1, the pc after its ECALL, and the view that shared memory is now.
+-- A woken thread has 0 in a0, the value that it gets in a1, the pc after its ECALL, and shared memory as its view.
 pub woken-registers :
     woken ((2 ∷ []) ∷ []) (Some 9) (1 ∷ []) (small_hart ∷ sleeper ∷ []) ≡ small_hart
     ∷ record {
@@ -84,14 +84,14 @@ pub woken-registers :
 unfolding first_registers with_register
 woken-registers = refl
 
--- Told nothing, it keeps its a1.
+-- Without a value it keeps its a1.
 pub woken-keeps_a1 :
     woken ((2 ∷ []) ∷ []) None (0 ∷ []) (record sleeper { regs = first_registers 0 0x10008 5 } ∷ [])
     ≡ record { view = (2 ∷ []) ∷ []; regs = first_registers 0 0x1000C 0; number = 3; status = Ready } ∷ []
 unfolding first_registers with_register
 woken-keeps_a1 = refl
 
--- Who blocks keeps its view and its registers, whatever shared memory is now.
+-- A thread that blocks keeps its view and its registers, whatever shared memory is then.
 pub blocked-keeps_its_view :
     fated Blocks ((2 ∷ []) ∷ []) small_hart
     ≡ record { view = (1 ∷ []) ∷ []; regs = first_registers 0 0x10000 0; number = 0; status = Blocked }
@@ -112,21 +112,21 @@ unfolding step finished thunk turn fetched number_at number_in permission_at dec
     bytes_stored with_byte first_registers all_unlocked choice
 joined-at_once = refl
 
--- While main waits no entry of it is permitted.
+-- While main waits, no entry of it is permitted.
 pub joined-blocked : is_permitted_from (begins 9 9 joined) (0 ∷ 0 ∷ 0 ∷ []) ≡ false
 unfolding step finished thunk turn fetched number_at number_in permission_at decoded reading_of u_immediate i_immediate
     s_immediate immediate_result shift_result register_result with_register is_readable put_addresses loaded may_store
     bytes_stored with_byte first_registers all_unlocked choice
 joined-blocked = refl
 
--- While main waits its view is the one that it had, though memory has the store of a step since.
+-- While main waits, its view stays as it was, though a later step has stored to memory.
 pub joined-view : (hart_of (scratch_from (begins 9 9 joined) (0 ∷ 0 ∷ [])) 0).view ≡ joined
 unfolding step finished thunk turn fetched number_at number_in permission_at decoded reading_of u_immediate i_immediate
     s_immediate immediate_result shift_result register_result with_register is_readable put_addresses loaded may_store
     bytes_stored with_byte first_registers all_unlocked choice
 joined-view = refl
 
--- When all threads have ended the run ends with code 0, also where the step is the last that the limit allows.
+-- If all threads have ended, the run ends with code 0, also if the step is the last that the limit allows.
 pub leave-exits : outcome (run 9 1 leave) ≡ (Some (Exit 0), 1, [])
 unfolding step finished thunk turn fetched number_at number_in permission_at decoded reading_of u_immediate i_immediate
     s_immediate immediate_result shift_result register_result with_register is_readable put_addresses loaded may_store
@@ -199,7 +199,7 @@ fits-nobody = refl
 abbrev pub with_fuel : ℕ → Machine
 with_fuel fuel = record (begins fuel 9 leave) { harts = at 0 Ready ∷ [] }
 
--- It fits where its count is no more than the machine's fuel.
+-- It fits if its count is no more than the machine's fuel.
 pub fits-more_fuel : fits (with_fuel 10) sample ≡ true
 unfolding fits fits_at may_end first_registers
 fits-more_fuel = refl
@@ -212,7 +212,7 @@ fits-count_above = refl
 abbrev pub out_of_fuel : Record
 out_of_fuel = record sample { kept = record sample.kept { end = thunk_end.Fuel } }
 
--- It fits where its count is the machine's fuel.
+-- It fits if its count is the machine's fuel.
 pub fits-out_of_fuel : fits (with_fuel 9) out_of_fuel ≡ true
 unfolding fits fits_at may_end first_registers
 fits-out_of_fuel = refl
@@ -221,7 +221,7 @@ pub fits-count_below : fits (with_fuel 10) out_of_fuel ≡ false
 unfolding fits fits_at may_end first_registers
 fits-count_below = refl
 
--- The ready thread with the fewest steps is chosen, and of two the lower one; who waits or has ended is passed over.
+-- The ready thread with the fewest steps is chosen, of two the lower one; a thread that waits or has ended isn't.
 pub choice-fewest :
     choice (with_harts (at 2 Ready ∷ at 0 Blocked ∷ at 0 (Ended 0) ∷ at 1 Ready ∷ at 1 Ready ∷ [])) ≡ Some 3
 unfolding choice

@@ -1,5 +1,5 @@
--- A step leaves every other ready hart as it is, keeps what holds of machines, and is what applying a true record that
--- fits is.
+-- A step keeps every other ready hart as it is and the invariant of machines, and it is the same as applying a true
+-- record that fits.
 use Rattle.std.proofs.Common.{◌≡◌, ◌≢◌, ◌<◌, ◌≤◌, ◌+◌, ℕ, zero, suc, Bool, true, false, ◌&&◌, not, eqb, leb, cond, List, [], ◌∷◌, ◌++◌, length, get_or, set, Option, Some, None, is_none, refl, ap, sym, ◌∙◌, subst, inl, inr, arith}
 use Rattle.std.proofs.lemmas.Bool.{eqb-true}
 use Rattle.std.proofs.lemmas.Bool.{and_parts}
@@ -35,7 +35,7 @@ use Rattle.machine_spec.specs.Whole.{IsTied, IsHartOf, IsWhole}
 use Rattle.machine_spec.proofs.Harts.{ready-below, status-set}
 use Rattle.machine_spec.proofs.Tied.{tied-written, tied-called, stays-called}
 
--- the caller is as ready after the writing as before
+-- after the writing, the caller is ready if it was before
 ready-written :
     (m : Machine) (t : ℕ) (memory : Memory) (regs : Registers) (put : List ℕ)
     → is_ready (hart_of m t).status ≡ true
@@ -117,7 +117,7 @@ hart-at map steps [] t below all = absurd (omega arith)
 hart-at map steps (x ∷ hs) zero below all = all.0
 hart-at map steps (x ∷ hs) (suc t) below all = hart-at map steps hs t (omega arith) all.1
 
--- also who doesn't exist has made no step
+-- a thread that doesn't exist has made no step either
 number-at :
     (map : List Mapped) (steps : ℕ) (hs : List Hart) (t : ℕ) → AllByRecursion (IsHartOf map steps) hs
     → (hart_in hs t).number ≤ steps
@@ -200,7 +200,7 @@ end_after-ready None hs limit steps none =
     end_at-ready (list_all (λ (h : Hart). is_ended h.status) hs)
     (list_any (λ (h : Hart). is_ready h.status) hs) limit steps _ _ _ none
 
--- what is there after the writing, and before the end is looked for
+-- the machine after the writing, before it is checked for an end
 record IsWritten (m : Machine) (t : ℕ) : Type 0 where
   pub memory : IsMemory m.frame.map m.memory
   pub harts : AllByRecursion (IsHartOf m.frame.map m.steps) m.harts
@@ -270,7 +270,7 @@ finished-whole m t memory regs e put whole can fit =
       few_steps = omega arith;
     })
 
--- what holds of machines holds after a step
+-- the invariant of machines holds after a step
 pub step-whole : (m : Machine) (t : ℕ) → IsWhole m → can_step m t ≡ true → IsWhole (step m t)
 unfolding step
 step-whole m t whole can =

@@ -1,4 +1,4 @@
--- A call keeps objects and harts in agreement, and leaves every other ready hart as it is.
+-- A call keeps objects and harts in agreement, and every other ready hart as it is.
 use Rattle.std.proofs.Common.{◌≡◌, ◌≢◌, ◌<◌, ◌≤◌, ◌+◌, ℕ, Bool, true, false, eqb, List, length, get_or, set, Option, Some, None, refl, ap, sym, ◌∙◌, inl, inr, arith}
 use Rattle.std.proofs.lemmas.Bool.{cases_eq, cases_lt, eq-eqb}
 use Rattle.std.proofs.lemmas.List.{get_or-set_same, get_or-set_other, get_or_past, length-set}
@@ -18,7 +18,7 @@ use Rattle.machine_spec.specs.Performing.{fated, woken, with_created, settled}
 use Rattle.machine_spec.specs.Whole.{blocked_count, ended_value, IsTied}
 use Rattle.machine_spec.proofs.Harts.{blocked_count-ready, ended_value-ready, ready-below, status-set, length-woken, woken-stays, woken-blocked, woken-ended, length-created, created-stays, created-blocked, created-last, fated-blocked, fated-ended, ended_after-other}
 
--- the harts with the caller's fate done, and nobody woken or created yet
+-- the harts after the caller's fate, before any thread is woken or created
 abbrev fated_harts : Effect → Memory → ℕ → List Hart → List Hart
 fated_harts e memory t hs = set hs t (fated e.fate memory (hart_in hs t))
 
@@ -26,7 +26,7 @@ entering-self : (t : ℕ) (f : Fate) → entering t f t ≡ waiting f
 unfolding entering
 entering-self t f = let same : eqb t t ≡ true = eq-eqb t t refl in rw same refl
 
--- after the caller's fate, who is Blocked is who waited, and the caller where it began to wait
+-- after the caller's fate, the blocked threads are those that waited, and the caller if it began to wait
 fated_harts-blocked :
     (o : Objects) (hs : List Hart) (e : Effect) (memory : Memory) (t u : ℕ)
     → IsTied o hs → is_ready (hart_in hs t).status ≡ true
@@ -76,7 +76,7 @@ fated_harts-ended o hs e memory t u tied ready below_u =
 ended_at-past : (o : Objects) (u : ℕ) → length o.threads ≤ u → ended_at o u ≡ None
 ended_at-past o u past = ap (λ (member : Member). member.value) (get_or_past o.threads u fresh past)
 
--- writing a hart with the status that was there keeps the agreement
+-- writing a hart with an unchanged status keeps the agreement
 pub tied-written :
     (o : Objects) (hs : List Hart) (t : ℕ) (h : Hart)
     → h.status ≡ (hart_in hs t).status
@@ -90,14 +90,14 @@ tied-written o hs t h same tied =
       ended = λ u below. tied.ended u (omega arith) ∙ ap ended_value (sym (status-set hs t u h same));
     }
 
--- what a call does to the objects, as far as the harts have to follow it
+-- what a call does to the objects, as far as the harts have to agree with it
 record IsFollowed (o after : Objects) (e : Effect) (t : ℕ) : Type 0 where
   pub keeps : (u : ℕ) → waits_at after u + places u e.woken ≡ waits_at o u + entering t e.fate u
   pub kept : IsKept after
   pub creates : length after.threads ≡ length o.threads + created_count e.created
   pub ended : (u : ℕ) → ended_at after u ≡ ended_after t e.fate u (ended_at o u)
 
--- the harts of the middle: the caller's fate is done and the woken are ready, and nobody is created yet
+-- the harts in between: after the caller's fate and with the woken threads ready, but before a thread is created
 abbrev woken_harts : Effect → Memory → ℕ → List Hart → List Hart
 woken_harts e memory t hs = woken memory e.reported e.woken (fated_harts e memory t hs)
 
@@ -107,7 +107,7 @@ length-woken_harts e memory t hs =
     length-woken memory e.reported e.woken (fated_harts e memory t hs)
     ∙ length-set hs t (fated e.fate memory (hart_in hs t))
 
--- an effect that the objects follow keeps the agreement
+-- an effect with which the objects agree keeps the agreement
 tied-settled :
     (o after : Objects) (hs : List Hart) (e : Effect) (memory : Memory) (t : ℕ)
     → IsTied o hs → is_ready (hart_in hs t).status ≡ true → IsFollowed o after e t
@@ -147,7 +147,7 @@ tied-settled o after hs e memory t tied ready followed =
           ];
     }
 
--- an effect that the objects follow leaves every other ready hart as it is
+-- an effect with which the objects agree keeps every other ready hart as it is
 stays-settled :
     (o after : Objects) (hs : List Hart) (e : Effect) (memory : Memory) (t u : ℕ)
     → IsTied o hs → is_ready (hart_in hs t).status ≡ true → IsFollowed o after e t
@@ -186,7 +186,7 @@ tied-called readable o hs t call memory tied ready =
     tied-settled o (act readable o t call).1 hs (act readable o t call).0 memory t tied ready
     (act-followed readable o hs t call tied ready)
 
--- a call leaves every other ready hart as it is
+-- a call keeps every other ready hart as it is
 pub stays-called :
     (readable : ℕ → ℕ → Bool) (o : Objects) (hs : List Hart) (t : ℕ) (call : Call) (memory : Memory) (u : ℕ)
     → IsTied o hs → is_ready (hart_in hs t).status ≡ true

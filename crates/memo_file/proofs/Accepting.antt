@@ -1,4 +1,4 @@
--- An executable that is taken is accepted.
+-- An executable that passes the tests of the reader is accepted.
 use Rattle.std.proofs.Common.{◌≡◌, ℕ, true, List, Option, Some, None, Result, Ok, refl, sym, ap, ◌∙◌}
 use Rattle.std.specs.Prelude.{is_none}
 use Rattle.std.specs.Int.{w32}

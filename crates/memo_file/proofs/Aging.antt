@@ -1,4 +1,4 @@
--- What a record tells of an address, and the last record of a history.
+-- What a record determines of an address, and the last record of a history.
 use Rattle.std.proofs.Common.{◌≡◌, ◌≢◌, ℕ, zero, suc, ◌<◌, ◌≤◌, ◌/◌, ◌^◌, Bool, true, false, cond, List, [], ◌∷◌, length, take, get_or, Some, refl, sym, ap, ◌∙◌, arith}
 use Rattle.std.specs.Prelude.{slice_get, slice_index_or}
 use Rattle.std.specs.List.{count_by}
@@ -19,7 +19,7 @@ use Rattle.memo_spec.specs.Old.{ends_at_m, last_ends_at_m, is_before_m, ends_at_
 abbrev one : Bool → ℕ
 one mark = cond mark 1 0
 
--- The byte of a marked place is behind those of the marks before it.
+-- The byte of a marked place comes after those of the marks before it.
 pub chosen_at : (mask : List Bool) (page : List ℕ) (k : ℕ) → length mask ≡ length page
     → slice_index_or mask k false ≡ true
     → slice_get (chosen mask page) (count_by (λ mark. mark) (take k mask)) ≡ slice_get page k
@@ -45,7 +45,7 @@ stored_at d s k is len within marked =
     let b : d.bytes ≡ chosen s.mask s.page = ap (λ (x : PageDelta). x.bytes) is in
     rw b (chosen_at s.mask s.page k len marked ∙ slice_get-get_or s.page k 0 within)
 
--- Behind the last address no page has its slot.
+-- After the last address, no page has its slot.
 pub no_slot : (map : List Mapped) (address : ℕ) → AreAddressable map → 2 ^ 32 ≤ address
     → slot_of map address ≡ length map
 no_slot [] address small far = refl
@@ -54,7 +54,7 @@ no_slot (m ∷ map) address small far =
     let ne : m.number ≢ address / 4096 = λ e. omega arith in
     rw (ne_eqb m.number (address / 4096) ne, no_slot map address (λ k d lt. small (suc k) d (omega arith)) far) refl
 
--- The last record tells the age of all.
+-- The last record determines whether all come from before M.
 last_old : (map : List Mapped) (rs : List Record) (k : ℕ) (r : Record) → suc k ≡ length rs → slice_get rs k ≡ Some r
     → last_ends_at_m map rs ≡ ends_at_m map r
 last_old map [] k r n e = absurd (omega arith)
@@ -74,7 +74,7 @@ pub none_old : (h : History) → length h.records ≡ 0 → is_before_m h ≡ fa
 unfolding is_before_m
 none_old h none = ap (last_ends_at_m (map_of h.setup)) (nil_from_length h.records none)
 
--- The last record tells whether a call of a reader-writer lock ended all.
+-- The last record determines whether a call of a reader-writer lock ended all.
 last_lock : (rs : List Record) (k : ℕ) (r : Record) → suc k ≡ length rs → slice_get rs k ≡ Some r
     → last_ends_at_lock rs ≡ ends_at_lock r
 last_lock [] k r n e = absurd (omega arith)

@@ -1,4 +1,4 @@
--- Records that are applied one after the other, as a loop does.
+-- Applying records one after the other, as a loop does.
 use Rattle.std.proofs.Common.{◌≡◌, ℕ, suc, ◌+◌, ◌<◌, ◌≤◌, Bool, true, false, cond, List, ◌∷◌, length, drop, Option, Some, None, sym, ap, ◌∙◌, arith}
 use Rattle.std.specs.Prelude.{slice_get, is_some}
 use Rattle.std.proofs.Math.Seq.{drop-cons}
@@ -27,7 +27,7 @@ applied_next rs m i r whole lt e fits h =
     ∙ ap (λ (b : Bool). cond b (incoherent_from (i + 1) (apply m r) (drop (i + 1) rs)) (Some i)) fits in
     sym step ∙ h
 
--- One that doesn't is the first.
+-- A record that doesn't fit is the first incoherent one.
 pub stale_at : (rs : List Record) (m : Machine) (i : ℕ) (r : Record) (whole : Option ℕ) → i < length rs
     → slice_get rs i ≡ Some r → can_apply m r ≡ false
     → incoherent_from i m (drop i rs) ≡ whole → whole ≡ Some i
@@ -35,7 +35,7 @@ stale_at rs m i r whole lt e fits h =
     sym h ∙ ap (incoherent_from i m) (next_is rs i r lt e)
     ∙ ap (λ (b : Bool). cond b (incoherent_from (i + 1) (apply m r) (drop (i + 1) rs)) (Some i)) fits
 
--- Behind the last one there is an end, or none.
+-- After the last one there is an end, or none.
 pub at_end : (rs : List Record) (m : Machine) (i : ℕ) (whole : Option ℕ) → length rs ≤ i
     → incoherent_from i m (drop i rs) ≡ whole → whole ≡ cond (is_some m.ending) None (Some i)
 at_end rs m i whole le h = sym h ∙ ap (incoherent_from i m) (drop_of_length-le rs le)

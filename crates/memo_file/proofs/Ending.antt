@@ -1,4 +1,4 @@
--- What is told behind the records.
+-- What follows from the fields after the records.
 use Rattle.std.proofs.Common.{◌≡◌, ◌≢◌, ◌+◌, ◌^◌, ◌<◌, ℕ, List, ◌++◌, length, drop, get_or, true, Result, Ok, Err, refl, sym, ap, subst, ◌∙◌, arith, eq-eqb}
 use Rattle.std.proofs.lemmas.Bool.{ne_eqb}
 use Rattle.std.proofs.lemmas.List.{get_or-drop, drop_at}
@@ -75,7 +75,7 @@ pub first_version : (format : Format) (p : Place) → format ≡ Version1 → be
 unfolding behind_version
 first_version format p e = ap (λ (f : Format). behind_version f p) e
 
--- ---- what comes behind the records
+-- ---- what comes after the records
 
 abbrev pub starts : List ℕ → Place
 starts text = record { taken = 8; left = drop 8 text }

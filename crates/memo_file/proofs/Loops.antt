@@ -1,4 +1,4 @@
--- Reading so many, one after the other, as a loop does.
+-- Reading a number of things, one after the other, as a loop does.
 use Rattle.std.proofs.Common.{◌≡◌, ℕ, suc, ◌+◌, ◌-◌, ◌<◌, ◌≤◌, List, [], ◌∷◌, ◌++◌, Result, Ok, Err, refl, sym, ap, ◌∙◌, append_assoc, arith}
 use Rattle.std.proofs.lemmas.List.{append-nil}
 use Rattle.ith_text.specs.Place.{Place}
@@ -15,7 +15,7 @@ use Rattle.memo_file.specs.Gives.{Fails}
 abbrev pub Chained : Type 0 → Type 0 → Type 0
 Chained S A = Result ((List A × S) × Place) Refusal
 
--- What was read before, and what is still read.
+-- What was read before, and what is still to be read.
 abbrev pub with_front : {S A : Type 0} → List A → Chained S A → Chained S A
 with_front front read = onward read (λ x. done (front ++ x.0, x.1))
 
@@ -138,7 +138,7 @@ registers_done p q front ws e h = registers_are p ∙ ap (λ (r : Many ℕ). onw
 
 -- ---- one part of several
 
--- Where a part fails, so does what goes on from it.
+-- If a part fails, so does what continues from it.
 pub part_fails : {A B : Type 0} (e : ReadError) (r : Result (A × Place) Refusal) (next : A → Reader B) → Fails e r
     → Fails e (onward r next)
 part_fails errors.NoMemory r next h = tt

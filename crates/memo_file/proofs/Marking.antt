@@ -1,4 +1,4 @@
--- The marks that bytes say, one place after the other, and a page that is filled at them.
+-- The marks that bytes encode, place by place, and a page that is filled at them.
 use Rattle.std.proofs.Common.{◌≡◌, ◌≢◌, ℕ, zero, suc, ◌+◌, ◌*◌, ◌/◌, ◌%◌, ◌^◌, ◌<◌, ◌≤◌, Bool, true, false, cond, List, [], ◌∷◌, ◌++◌, length, map, get_or, set, take, replicate, refl, sym, ap, ◌∙◌, arith, eq-eqb}
 use Rattle.std.specs.Prelude.{◌==◌, count_ones}
 use Rattle.std.specs.List.{count_by}

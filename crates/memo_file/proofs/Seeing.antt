@@ -29,7 +29,7 @@ or_more true a true = refl
 or_more true a false = refl
 or_more false a b = refl
 
--- What a pool has once a page stands behind the others.
+-- What a pool has after a page was appended.
 pub has_push : (pool : List Piece) (p q : List ℕ) → has_page (pool ++ p ∷ []) q ≡ cond (bytes_eq p q) true (has_page pool q)
 has_push [] p q = or_last false (bytes_eq q p) ∙ ap (λ (b : Bool). cond b true false) (same_either_way q p)
 has_push (x ∷ pool) p q = ap (λ (b : Bool). bytes_eq q x || b) (has_push pool p q)

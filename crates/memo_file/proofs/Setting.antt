@@ -23,7 +23,7 @@ setup elf input l = record { elf = elf; input = input; fuel = l.fuel; limit = l.
 abbrev limits : ℕ → ℕ → Limits
 limits fuel steps = record { fuel = fuel; steps = steps }
 
--- What is read behind the input, and behind the executable.
+-- What is read after the input, and after the executable.
 abbrev steps_at : Place → Result (ℕ × Place) Refusal
 steps_at = limited (number_at w32) (is_within 1 MOST_STEPS) (Limit limit.Steps)
 
@@ -36,7 +36,7 @@ abbrev behind_elf : List ℕ → Reader Setup
 behind_elf elf = λ p. onward (limited (number_at w32) (is_within 0 MOST_INPUT_BYTES) (Limit limit.Input) p)
     (λ n q. onward (bytes_at n q) (behind_input elf))
 
--- One reader behind two, and behind their pair.
+-- One reader after two, and after their pair.
 joined : {A B C : Type 0} (r : Result (A × Place) Refusal) (f : A → Reader B) (g : B → Reader C)
     → onward r (λ a p. onward (f a p) g) ≡ onward (onward r f) g
 joined (Ok x) f g = refl

@@ -1,4 +1,4 @@
--- The page map of a setup has small numbers, and what encodes a history has its slots in it.
+-- The page map of a setup has small numbers, and a history that has an encoding has its slots in it.
 use Rattle.std.proofs.Common.{◌≡◌, ℕ, zero, suc, ◌+◌, ◌^◌, ◌<◌, ◌≤◌, List, [], ◌∷◌, ◌++◌, length, map, Ok, arith}
 use Rattle.std.specs.Prelude.{slice_index}
 use Rattle.std.specs.List.{AllByRecursion, range_with_len}

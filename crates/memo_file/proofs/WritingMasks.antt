@@ -20,7 +20,7 @@ few : (b : Bool) → bit b ≤ 1
 few true = omega arith
 few false = omega arith
 
--- Eight marks in front are the lowest byte of the number that marks are.
+-- The eight first marks are the lowest byte of the number that the marks encode.
 eight : (a b c d e f g h : Bool) (m : List Bool) → let n : ℕ = mask_l (a ∷ b ∷ c ∷ d ∷ e ∷ f ∷ g ∷ h ∷ m) in
     (n % 256 ≡ bit a + 2 * bit b + 4 * bit c + 8 * bit d + 16 * bit e + 32 * bit f + 64 * bit g + 128 * bit h)
     × (n / 256 ≡ mask_l m)
@@ -69,7 +69,7 @@ word_bytes m number le =
     ∙ ap (λ (l : List Bool). to_le_bytes w64 (mask_l (word_marks m number)) ++ mask l)
     (drop-drop 64 (64 * number) m ∙ ap (λ (n : ℕ). drop n m) (omega arith))
 
--- A word of a mask more.
+-- One more word of a mask.
 pub mask_step : (m : List Bool) (number word : ℕ) (out new all bytes : List ℕ) → 64 * number + 64 ≤ length m
     → word ≡ mask_l (word_marks m number) → bytes ≡ to_le_bytes w64 word → new ≡ out ++ bytes
     → out ++ mask (drop (64 * number) m) ≡ all → new ++ mask (drop (64 * (number + 1)) m) ≡ all
@@ -87,7 +87,7 @@ same (x ∷ m) = ap (λ (r : List Bool). x ∷ r) (same m)
 ones_are : (m : List Bool) → count_ones (mask_l m) ≡ marks_in m
 ones_are m = ap (λ (l : List Bool). count_ones (mask_l l)) (sym (same m)) ∙ ones-mask_l (λ (mark : Bool). mark) m
 
--- A word of a mask more is counted.
+-- One more word of a mask is counted.
 pub count_step : (m : List Bool) (number word count : ℕ) → word ≡ mask_l (word_marks m number)
     → count + marks_in (drop (64 * number) m) ≡ marks_in m
     → count + count_ones word + marks_in (drop (64 * (number + 1)) m) ≡ marks_in m
@@ -148,7 +148,7 @@ chosen_full (suc n) m page k lt le full =
 
 -- ---- steps over the marks of a word
 
--- The byte of the lowest mark more.
+-- One more byte, that of the lowest mark.
 pub mark_step : (m : List Bool) (page : List ℕ) (end place left t : ℕ) (out new all : List ℕ)
     → IsLeft m end place left t → end ≤ length m → end ≤ length page → place + t < end
     → new ≡ out ++ slice_index_or page (place + t) 0 ∷ [] → out ++ chosen (drop place m) (drop place page) ≡ all
@@ -164,7 +164,7 @@ mark_step m page end place left t out new all is le room inside w h =
     (chosen (drop (place + t + 1) m) (drop (place + t + 1) page))
     ∙ ap (λ (l : List ℕ). out ++ l) (sym (blank ∙ here)) ∙ h)
 
--- Where no mark is left, no byte is.
+-- If no mark remains, no byte does.
 pub marks_done : (m : List Bool) (page : List ℕ) (end place left : ℕ) (out all : List ℕ) → end ≤ length m
     → end ≤ length page → place ≤ end → left ≡ mask_l (marks_left m end place) → left ≡ 0
     → out ++ chosen (drop place m) (drop place page) ≡ all → out ++ chosen (drop end m) (drop end page) ≡ all
@@ -174,7 +174,7 @@ marks_done m page end place left out all le room from is none h =
     (λ j from below. none_left m end place left is none j from (omega arith))
     ∙ ap (λ (n : ℕ). chosen (drop n m) (drop n page)) size)) ∙ h
 
--- A word of marks alone.
+-- A word in which every place is marked.
 pub word_full : (m : List Bool) (page : List ℕ) (number word : ℕ) (out new all : List ℕ)
     → 64 * number + 64 ≤ length m → 64 * number + 64 ≤ length page
     → word ≡ mask_l (word_marks m number) → word ≡ 2 ^ 64 - 1 → new ≡ out ++ take 64 (drop (64 * number) page)

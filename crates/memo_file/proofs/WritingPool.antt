@@ -17,7 +17,7 @@ use Rattle.memo_spec.proofs.Pool.{bytes_determine}
 use Rattle.memo_file.specs.WritingPool.{pages_lent, bytes_read, places_from, StandsAt, IsIndexed, IsPoolOf}
 use Rattle.memo_file.proofs.Seeing.{has_push}
 
--- What is left of a list from a place on begins with what stands there.
+-- The rest of a list from a place on begins with the element there.
 pub drop_at : {A : Type 0} (xs : List A) (k : ℕ) (x : A) → slice_get xs k ≡ Some x → drop k xs ≡ x ∷ drop (k + 1) xs
 drop_at [] k x e = absurd cc
 drop_at (y ∷ ys) zero x e = first y ys x e
@@ -59,7 +59,7 @@ index_of_new pool p q new old fresh o n =
         let j : has_page (pool ++ p ∷ []) q ≡ false = has_push pool p q ∙ rw (h, k) refl in
         n ∙ rw (h, j) (o ∙ rw k refl)
 
--- A page that was put behind the others, in the map that has the index of each.
+-- A page that was appended to the others, in the map that has the index of each.
 pub index_of_next :
     (pool : Pages) (p q : List ℕ) (w : ℕ) (new old : Option ℕ)
     → w ≡ length pool → has_page pool p ≡ false → old ≡ cond (has_page pool q) (Some (index_in pool q)) None
@@ -68,7 +68,7 @@ pub index_of_next :
 index_of_next pool p q w new old is fresh o n =
     index_of_new pool p q new old fresh o (n ∙ ap (λ (k : ℕ). cond (bytes_eq p q) (Some k) old) is)
 
--- A pool with a page that it hasn't.
+-- A pool after a page that it doesn't have.
 pub with_new : (pool : Pages) (page : List ℕ) → has_page pool page ≡ false → with_page pool page ≡ pool ++ page ∷ []
 with_new pool page h = rw h refl
 
@@ -76,11 +76,11 @@ pub place_new : (pool : Pages) (page : List ℕ) → has_page pool page ≡ fals
     → index_in (with_page pool page) page ≡ length pool
 place_new pool page h = rw h (index_new pool [] page h)
 
--- A pool with a page that it has.
+-- A pool after a page that it has.
 pub with_old : (pool : Pages) (page : List ℕ) → has_page pool page ≡ true → with_page pool page ≡ pool
 with_old pool page h = rw h refl
 
--- The answer of a map that has the index of each page, where it has one, and where it has none.
+-- The answer of a map that has the index of each page, if the page has one, and if it has none.
 pub found_place : (pool : Pages) (page : List ℕ) (b : Bool) (i : ℕ) (o : Option ℕ) → has_page pool page ≡ b
     → o ≡ cond b (Some (index_in pool page)) None → o ≡ Some i
     → (has_page pool page ≡ true) × (i ≡ index_in pool page)
@@ -100,7 +100,7 @@ none_found true x o e n = absurd (differ x (sym e ∙ n))
     differ i e = cc
 none_found false x o e n = refl
 
--- A page that stands at a place of a pool is one that it has, and this is its place.
+-- A page at a place of a pool is in the pool, and this is its place.
 pub stands_there : (indices : BTreeMap (Bor (List ℕ)) ℕ) (pool : Pages) (place : ℕ) (page : List ℕ)
     → IsIndexed indices pool → StandsAt pool place page
     → (with_page pool page ≡ pool) × (place ≡ index_in (with_page pool page) page)
@@ -112,7 +112,7 @@ stands_there indices pool place page ok at =
     let same = with_old pool page there in
     (same, sym is ∙ ap (λ (l : Pages). index_in l page) (sym same))
 
--- ---- pages in turn
+-- ---- pages one after the other
 
 with_has : (pool : Pages) (page : List ℕ) → index_in (with_page pool page) page < length (with_page pool page)
 with_has pool page =
@@ -126,7 +126,7 @@ places_append pool [] ys = refl
 places_append pool (x ∷ xs) ys =
     ap (λ (l : List ℕ). index_in (with_page pool x) x ∷ l) (places_append (with_page pool x) xs ys)
 
--- The places of pages that are added in turn are their places in the pool that has them all.
+-- If pages are added one after the other, their places are those in the pool that has them all.
 pub places_are : (pool pages : Pages) → places_from pool pages ≡ map (index_in (fold with_page pool pages)) pages
 places_are pool [] = refl
 places_are pool (page ∷ pages) =
@@ -137,7 +137,7 @@ places_are pool (page ∷ pages) =
     ∙ ap (λ (l : List ℕ). index_in (fold with_page (with_page pool page) pages) page ∷ l)
     (places_are (with_page pool page) pages)
 
--- ---- one read page more
+-- ---- one more read page
 
 pub reads_from : (reads : List ReadPage) (k : ℕ) (read : ReadPage) → slice_get reads k ≡ Some read
     → bytes_read (drop k reads) ≡ read.bytes ∷ bytes_read (drop (k + 1) reads)
@@ -147,7 +147,7 @@ pub pages_from : (rs : List Record) (k : ℕ) (r : Record) → slice_get rs k �
     → pages_read (drop k rs) ≡ bytes_read r.kept.reads ++ pages_read (drop (k + 1) rs)
 pages_from rs k r e = ap pages_read (drop_at rs k r e)
 
--- After one page more, what is to come leads to the same pool.
+-- After one more page, the pages to come lead to the same pool.
 pub pool_step : (pool new all : Pages) (page : List ℕ) (now next : Pages) → now ≡ page ∷ next
     → new ≡ with_page pool page → fold with_page pool now ≡ all → fold with_page new next ≡ all
 pool_step pool new all page now next e w h = rw w (sym (ap (fold with_page pool) e) ∙ h)
@@ -174,7 +174,7 @@ places_met pool places all reads k le h =
     sym (append-nil places)
     ∙ ap (λ (l : List ReadPage). places ++ places_from pool (bytes_read l)) (sym (drop_of_length-le reads le)) ∙ h
 
--- A page more makes a pool longer by one at most.
+-- One more page makes a pool longer by one at most.
 one_more : (there : Bool) (pool : Pages) (page : List ℕ)
     → length (cond there pool (pool ++ page ∷ [])) ≤ length pool + 1
 one_more true pool page = omega arith
@@ -198,7 +198,7 @@ lent_at [] k d lt = absurd (omega arith)
 lent_at (p ∷ pool) zero d lt = refl
 lent_at (p ∷ pool) (suc k) d lt = lent_at pool k d (omega arith)
 
--- A page that was found equal to what stands at a place.
+-- A page that was found equal to the one at a place.
 pub lent_stands : (pool : List (Bor (List ℕ))) (place : ℕ) (page : List ℕ) (other d : Bor (List ℕ)) (b : Bool)
     → true ≡ ltb place (length pool) → other ≡ slice_index_or pool place d → b ≡ bytes_eq other.now page → b ≡ true
     → StandsAt (pages_lent pool) place page
@@ -223,7 +223,7 @@ pub stands_for : (a b : List (Bor (List ℕ))) (place : ℕ) (x y : List ℕ) �
 stands_for a b place x y e f h = subst (λ (l : List (Bor (List ℕ))). StandsAt (pages_lent l) place y) e
     (subst (λ (z : List ℕ). StandsAt (pages_lent a) place z) f h)
 
--- One lent page more.
+-- One more lent page.
 pub one_lent : (pages : List (Bor (List ℕ))) (k : ℕ) (d : Bor (List ℕ)) (out new all : List ℕ) → k < length pages
     → new ≡ out ++ (slice_index_or pages k d).now
     → out ++ concat (pages_lent (drop k pages)) ≡ all → new ++ concat (pages_lent (drop (k + 1) pages)) ≡ all
@@ -234,7 +234,7 @@ one_lent pages k d out new all lt w h =
     rw w (append_assoc out (slice_index_or pages k d).now (concat (pages_lent (drop (k + 1) pages)))
     ∙ sym (ap (λ (l : List (Bor (List ℕ))). out ++ concat (pages_lent l)) e) ∙ h)
 
--- ---- one record more
+-- ---- one more record
 
 pub nothing_indexed : (indices : BTreeMap (Bor (List ℕ)) ℕ) → indices.entries ≡ [] → IsIndexed indices []
 nothing_indexed indices e = record { index = λ q. rw e refl; once = λ i lt. absurd (omega arith) }

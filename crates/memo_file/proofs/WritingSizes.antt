@@ -138,7 +138,7 @@ length_body h s =
         → 12 + 4 + elf + 4 + input + 4 + 4 + 4 + 4 + pages + records + 32 ≡ 68 + elf + input + 4096 * pool + size
     sum_up elf input pages pool records size p r = omega arith
 
--- What encodes a history in version 2 is its memo.
+-- The bytes that encode a history in version 2 are its memo.
 pub second_is : (bytes : List ℕ) (h : History) → EncodesIn Version2 bytes h → bytes ≡ memo h
 unfolding memo
 second_is bytes h s = s.is

@@ -1,4 +1,4 @@
--- One step more: its pages, one by one, and what is known after it.
+-- One more step: its pages, one by one, and what is known after it.
 use Rattle.std.proofs.Common.{◌≡◌, ◌<◌, ◌≤◌, ◌+◌, ◌*◌, ◌^◌, ◌⊎◌, ℕ, zero, suc, Bool, true, false, eqb, cond, List, [], ◌∷◌, ◌++◌, length, take, get_or, set, append_assoc, refl, ap, ap₂, sym, ◌∙◌, subst, inl, inr, arith}
 use Rattle.std.specs.List.{flat_map, range_with_len, count_by}
 use Rattle.std.proofs.lemmas.Bool.{cases_eq, cases_lt, eq-eqb, ne_eqb}
@@ -44,7 +44,7 @@ rows-none f n none =
     ∙ sum-same (λ k. length (f k)) (λ k. 0) n (λ k less. ap (λ xs. length xs) (none k less))
     ∙ sum-none n)
 
--- the sum of a test over more numbers, none of which passes it
+-- the sum of a test over more numbers, if none of these passes it
 tally-more : (p : ℕ → Bool) (j d : ℕ) → ((k : ℕ) → j ≤ k → p k ≡ false) → tally p (d + j) ≡ tally p j
 tally-more p j zero none = let same : 0 + j ≡ j = omega arith in ap (tally p) same
 tally-more p j (suc d) none =
@@ -61,7 +61,7 @@ tally-all p j n low none =
 abbrev pub races_before : List Fact → List (List ℕ) → ℕ → ℕ → ℕ → ℕ
 races_before fs reads pages n j = sum_below (λ k. sum_below (λ i. length (races_between fs reads pages i k)) n) j
 
--- and how many the step at place j has with all before it, for the first of its pages
+-- and how many the step at place j has with all before it, on the first of its pages
 abbrev pub races_now : List Fact → List (List ℕ) → ℕ → ℕ → List Touch → ℕ → ℕ
 races_now fs reads n j touches m = sum_below (λ i. length (so_far fs reads i j touches m)) n
 
@@ -70,7 +70,7 @@ none-now fs reads n j touches = sum-none n
 
 module _ (fs : List Fact) (reads : List (List ℕ)) (pages n j : ℕ) (s : Step) (is : IsStep fs reads pages j s)
     (low : j < n) where
-  -- one page more
+  -- one more page
   pub now-more :
       (m : ℕ) (t : Touch) → m < length s.touches.items → t ≡ get_or s.touches.items m t
       → races_now fs reads n j s.touches.items (m + 1)
@@ -101,7 +101,7 @@ module _ (fs : List Fact) (reads : List (List ℕ)) (pages n j : ℕ) (s : Step)
       (λ i less. ap (λ (rs : List Race). length rs) (all-so_far fs reads pages j s is i m end)) in
       rw next (omega arith)
 
-  -- the numbers stay small
+  -- the counts stay small
   pub total-fits :
       (m total count : ℕ) → n ≤ 65536 → pages ≤ 1048576 → count ≤ j
       → total ≡ races_before fs reads pages n j + races_now fs reads n j s.touches.items m
@@ -145,7 +145,7 @@ pub page-has :
     → HasPast fs reads p j m s (get_or past p page) → page ≡ get_or past p page → HasPast fs reads p j m s page
 page-has fs reads p j m s past page has at = subst (HasPast fs reads p j m s) (sym at) has
 
--- the row of a step, one page on
+-- the row of a step, after one more page
 pub row-next :
     (fs : List Fact) (reads : List (List ℕ)) (i j m : ℕ) (touches : List Touch) (t : Touch) (row row' before found : List Race)
     → m < length touches → t ≡ get_or touches m t
@@ -217,7 +217,7 @@ rows-few j rows kept opened within first more =
     by-bit true is few = let one = length_push kept [] in omega arith
     by-bit false is few = omega arith
 
--- there are enough rows: all, or as many as have the races that are wanted
+-- there are enough rows: all, or as many as have the requested races
 pub rows-enough :
     (j most many many' : ℕ) (rows kept opened : List (List Race))
     → (length rows ≡ j) ⊎ (most ≤ many)
@@ -263,7 +263,7 @@ rows-listed fs reads pages n most many rows within each counted enough =
           rows-first (races_from fs reads pages n) most (length rows) n within (omega arith)
     ])
 
--- the accesses to each page, one page on
+-- the accesses to each page, after one more page of the step
 pub past-more :
     (fs : List Fact) (reads : List (List ℕ)) (pages j m : ℕ) (s : Step) (is : IsStep fs reads pages j s)
     (known : (i : ℕ) → i < j → (fact_at fs i).thread < 32) (t : Touch) (past : List PagePast) (page page' : PagePast)

@@ -14,7 +14,7 @@ use Rattle.memo_reports.specs.declared.audit.verdict.Verdict.{Verdict}
 use Rattle.memo_reports.specs.Claims.{AreClaims, IsFoundIn, turns_in, first_of_both}
 use Rattle.memo_reports.proofs.Following.{IsSoFar, far-then, far-closed, far-nothing, claims-far, claims-turns, unstored-unmade, drop-nil, front-of}
 
--- So many records were applied, which led to a machine, and what was found in them tells of all.
+-- Some records were applied, which led to a machine, and what was found in them determines the verdict on all.
 pub record IsAuditedTo (m : Machine) (rs : List Record) (place : ℕ) (core : Machine) (found : Verdict) : Type 0 where
   pub within : place ≤ length rs
   pub few : found.instructions ≤ place * 2 ^ 32
@@ -73,7 +73,7 @@ pub record IsOfAll (m : Machine) (rs : List Record) (v : Verdict) : Type 0 where
   pub first : IsFirstFalseFrom m rs v.first
   pub turns : v.instructions ≡ turns_from m rs
 
--- the verdict is known where the first of the rest can't be applied
+-- the verdict is known if the first of the rest can't be applied
 pub audited-stuck :
     (m : Machine) (rs : List Record) (place : ℕ) (core : Machine) (found then : Verdict)
     → IsAuditedTo m rs place core found → place < length rs
@@ -97,7 +97,7 @@ ends : (m : Machine) (e : Option End) → m.ending ≡ e → IsFirstFalseFrom m 
 ends m None is = rw is refl
 ends m (Some e) is = rw is refl
 
--- or where there is none left, by whether there is an end
+-- or if none remains, by whether there is an end
 pub audited-all :
     (m : Machine) (rs : List Record) (place : ℕ) (core : Machine) (found then : Verdict) (endless : Bool)
     → IsAuditedTo m rs place core found → length rs ≤ place → endless ≡ is_none core.ending

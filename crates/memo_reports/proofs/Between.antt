@@ -19,7 +19,7 @@ use Rattle.memo_reports.specs.Steps.{IsStep}
 use Rattle.memo_reports.proofs.Tally.{bit, count-cons}
 use Rattle.memo_reports.proofs.Bounds.{filter-short, touches-short}
 
--- what holds of each page that is touched
+-- what holds of each touched page
 pub record IsTouched (written reads : List ℕ) (pages : ℕ) (t : Touch) : Type 0 where
   pub below : t.slot < pages
   pub there : (is_in t.slot written || is_in t.slot reads) ≡ true
@@ -57,7 +57,7 @@ and-false : (b : Bool) → (b && false) ≡ false
 and-false true = refl
 and-false false = refl
 
--- how often a page is among those that are touched, where a test passes it
+-- how often a page is among the touched ones that pass a test
 
 none-counted-below :
     (written : List ℕ) (q : ℕ → Bool) (test : Touch → Bool) (p low n : ℕ) → p < low
@@ -81,7 +81,7 @@ none-counted-below written q test p low (suc n) less =
         omega arith
     here rest false = rest
 
--- one page more at the front
+-- one more page at the front
 counted-first :
     (written rest : List ℕ) (test : Touch → Bool) (p low : ℕ) (b : Bool)
     → count_by (λ (t : Touch). eqb t.slot p && test t) (map (touch_in written) (cond b (low ∷ rest) rest))
@@ -135,7 +135,7 @@ filter-filter q r (p ∷ ps) within = here (filter-filter q r ps within) (r p) r
           | inr none ↦ rw none rest
         ]
 
--- the races of the steps at two places for the first of some pages
+-- the races of the steps at two places on the first of some pages
 abbrev pub so_far : List Fact → List (List ℕ) → ℕ → ℕ → List Touch → ℕ → List Race
 so_far fs reads i j touches n =
     map (race_at fs i j) (filter (is_race fs reads i j) (map (λ (t : Touch). t.slot) (take n touches)))
@@ -190,7 +190,7 @@ module _ (fs : List Fact) (reads : List (List ℕ)) (pages j : ℕ) (b : Step) (
       (filter-filter (is_race fs reads i j) (λ p. is_in p (fact_at fs j).written || is_in p (read_at reads j))
       (range_with_len 0 pages) (λ p race. later-touches fs reads i j p race))
 
--- one page more
+-- one more page
 pub more-so_far :
     (fs : List Fact) (reads : List (List ℕ)) (i j : ℕ) (touches : List Touch) (n : ℕ) (t : Touch)
     → n < length touches → t ≡ get_or touches n t

@@ -1,8 +1,8 @@
--- Stored bytes compared by writing the one's over the other's.
+-- Stored bytes, compared by writing those of one over those of the other.
 use Rattle.std.proofs.Common.{◌≡◌, ℕ, ◌≤◌, Bool, true, false, List, [], ◌∷◌, length, Decides, refl, sym, ap, ◌∙◌, arith}
 use Rattle.thunk_spec.specs.Delta.{PageDelta, chosen, spread}
 
--- what was written at the places of a mask stands there
+-- the bytes written at the places of a mask are there
 pub chosen-spread : (m : List Bool) (p q : List ℕ) → length m ≤ length p → length p ≡ length q
     → chosen m (spread m (chosen m p) q) ≡ chosen m p
 chosen-spread [] p q few same = refl
@@ -23,7 +23,7 @@ spread-own (true ∷ m) (y ∷ q) = ap (λ (bytes : List ℕ). y ∷ bytes) (spr
 abbrev pub Delta : ℕ → List Bool → List ℕ → PageDelta
 Delta slot mask page = record { slot = slot; mask = mask; bytes = chosen mask page }
 
--- the same where slots and masks are, and the one's bytes written over the other's change none
+-- stored bytes are the same if slots and masks are, and writing those of one over those of the other changes nothing
 pub delta_same :
     (d e : PageDelta) (m n : List Bool) (p q after : List ℕ) (answer : Bool)
     → d ≡ Delta d.slot m p → e ≡ Delta e.slot n q → d.slot ≡ e.slot → m ≡ n

@@ -77,7 +77,7 @@ and-true : (b : Bool) → (b && true) ≡ b
 and-true true = refl
 and-true false = refl
 
--- whether an access is that of the step at a place, as far as a race tells it
+-- whether an access is that of the step at a place, as far as a race depends on it
 abbrev is_same : List Fact → ℕ → ℕ → Access → Bool
 is_same fs p i a = eqb a.place i && cond (writes_at fs i p) a.writes (not a.writes)
 
@@ -121,7 +121,7 @@ module _ (fs : List Fact) (reads : List (List ℕ)) (pages j : ℕ) (s : Step) (
       (λ (t : Touch). (let self = eqb-self s.thread in rw self (and-false (eqb t.slot p))))
       (take n s.touches.items)
 
-  -- an access before races just where the two steps do
+  -- an earlier access races with the step exactly if the two steps race
   pub race-reported :
       (t : Touch) → IsTouched (fact_at fs j).written (read_at reads j) pages t
       → (i : ℕ) → i < j
@@ -151,7 +151,7 @@ module _ (fs : List Fact) (reads : List (List ℕ)) (pages j : ℕ) (s : Step) (
       turned false true w v o = refl
       turned false false w v o = refl
 
-  -- so many accesses race with the step for a page
+  -- this number of accesses races with the step for a page
   pub racing-counted :
       (t : Touch) (n : ℕ) (page : PagePast)
       → IsTouched (fact_at fs j).written (read_at reads j) pages t
@@ -165,7 +165,7 @@ module _ (fs : List Fact) (reads : List (List ℕ)) (pages j : ℕ) (s : Step) (
       (λ i. is_race fs reads i j t.slot) j (race-reported t touched) in
       omega arith
 
-  -- of each step before at most one access races with it for a page, where the two steps race
+  -- of each earlier step, at most one access races with the step for a page, if the two steps race
   pub row-reported :
       (t : Touch) (n : ℕ) (page : PagePast)
       → IsTouched (fact_at fs j).written (read_at reads j) pages t
@@ -214,7 +214,7 @@ module _ (fs : List Fact) (reads : List (List ℕ)) (pages j : ℕ) (s : Step) (
           plus-none : (n : ℕ) → n + 0 ≡ n
           plus-none n = omega arith
 
-  -- the accesses of the steps before don't stand after the step's own
+  -- the accesses of earlier steps don't come after the step's own
   pub none-misplaced :
       (t : Touch) (p n : ℕ) (page : PagePast) → HasPast fs reads p j n s page
       → count_by (is_misplaced (access_for s j t)) (accesses_of page) ≡ 0
@@ -244,7 +244,7 @@ module _ (fs : List Fact) (reads : List (List ℕ)) (pages j : ℕ) (s : Step) (
           let two : leb (number_at fs i) s.number ≡ true = grind (arith, nat_tests) in
           rw (same, one, two) (and-false (touches_at fs reads i p))
 
-  -- the step's access to one page more
+  -- the step's access to one more page
 
   own-more :
       (t : Touch) (p n : ℕ) (q : Access → Bool) → n < length s.touches.items → t ≡ get_or s.touches.items n t
@@ -284,7 +284,7 @@ module _ (fs : List Fact) (reads : List (List ℕ)) (pages j : ℕ) (s : Step) (
             omega arith);
       }
 
-  -- one step more
+  -- one more step
   pub past-next :
       (p n : ℕ) (page : PagePast) (s' : Step) → p < pages → length s.touches.items ≤ n
       → HasPast fs reads p j n s page → HasPast fs reads p (j + 1) 0 s' page

@@ -12,7 +12,7 @@ use Rattle.machine_spec.specs.Setup.{map_of}
 use Rattle.history_spec.specs.History.{History, IsMapped, IsMappedIn}
 use Rattle.memo_reports.specs.Listing.{address_text, addresses_of, entry_line, entry_lines}
 
--- the record at a place is mapped where all are
+-- the record at a place is mapped if all are
 pub mapped_at :
     (n : ℕ) (rs : List Record) (k : ℕ) (r : Record) → All (IsMappedIn n) rs → slice_get rs k ≡ Some r → IsMappedIn n r
 mapped_at n rs k r all at =
@@ -40,7 +40,7 @@ mapped_records h addresses rs are records mapped =
     ap length are ∙ length-map (map_of h.setup) (λ (page : Mapped). page.number * 4096) in
     rw (count, records) mapped
 
--- the things behind the first one are in range where all are
+-- the elements after the first one are in range if all are
 pub later_in_range :
     {X : Type 0} (slot : X → ℕ) (n : ℕ) (all : List X) (first : X) (others : List X) (k : ℕ) (x : X)
     → All (λ y. slot y < n) all → all ≡ first ∷ others → k < length others → x ≡ get_or others k x → slot x < n
@@ -48,11 +48,11 @@ later_in_range slot n all first others k x mapped is below at =
     let inside : All (λ y. slot y < n) (first ∷ others) = subst (All (λ y. slot y < n)) is mapped in
     subst (λ y. slot y < n) (sym at) (inside (suc k) x (omega arith))
 
--- an address behind a comma
+-- an address after a comma
 abbrev further : {X : Type 0} → List ℕ → (X → ℕ) → X → List ℕ
 further addresses slot x = codes "," ++ address_text addresses (slot x)
 
--- the addresses of the first things behind the first one, with one more
+-- the addresses of the first elements after the first one, with one more
 pub address_next :
     {X : Type 0} (addresses : List ℕ) (slot : X → ℕ) (xs : List X) (k : ℕ) (x : X) (s : ℕ)
     (before into pushed new : List ℕ)

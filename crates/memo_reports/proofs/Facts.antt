@@ -15,7 +15,7 @@ use Rattle.history_spec.specs.Before.{fact_at, no_fact}
 use Rattle.round_spec.specs.Reach.{read_at, reads_of}
 use Rattle.release_core.specs.Records.{HaveThreads}
 
--- what fact and record of a step have in common
+-- what the fact and the record of a step have in common
 module _ {X : Type 0} (g : Fact → X) (k : Record → X) (reads : ℕ → ℕ → List ℕ)
     (full : (m : Machine) (r : Record) → g (fact_of reads m r) ≡ k r)
     (bare : (r : Record) → g (bare_fact r) ≡ k r) where

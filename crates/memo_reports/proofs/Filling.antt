@@ -20,7 +20,7 @@ races-append i j t xs ys =
     ap (map (race_with j t)) (filter-append (λ (a : Access). eqb a.place i) xs ys)
     ∙ map-append (race_with j t) (filter (λ (a : Access). eqb a.place i) xs) (filter (λ (a : Access). eqb a.place i) ys)
 
--- later places are those of no earlier row
+-- later accesses are in no earlier row
 none-above :
     (i : ℕ) (xs : List Access) → ((k : ℕ) (d : Access) → k < length xs → i < (get_or xs k d).place)
     → filter (λ (a : Access). eqb a.place i) xs ≡ []
@@ -48,7 +48,7 @@ races-front i j t xs k x order less at above =
     omega arith))))
     ∙ append-nil (races_in i j t (take k xs))
 
--- one access more
+-- one more access
 pub races-more :
     (i j : ℕ) (t : Touch) (xs : List Access) (k : ℕ) (x : Access) → k < length xs → x ≡ get_or xs k x
     → races_in i j t (take (k + 1) xs)
@@ -91,7 +91,7 @@ row-more rows new old i j t xs k x less at within is before =
     ∙ append_assoc (get_or old i []) (races_in i j t (take k xs)) (cond (eqb x.place i) (race_with j t x ∷ []) [])
     ∙ ap (λ (rs : List Race). get_or old i [] ++ rs) (sym (races-more i j t xs k x less at))
 
--- the accesses of one thread more
+-- one more thread's accesses
 pub row-joined :
     (old mid new xs ys : List Race) → mid ≡ old ++ xs → new ≡ mid ++ ys → new ≡ old ++ (xs ++ ys)
 row-joined old mid new xs ys one two = two ∙ ap (λ (rs : List Race). rs ++ ys) one ∙ append_assoc old xs ys

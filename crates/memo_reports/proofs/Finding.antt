@@ -1,4 +1,4 @@
--- What is found in some claims, and in others behind them.
+-- What is found in some claims, and in others after them.
 use Rattle.std.specs.Prelude.{IfSome}
 use Rattle.std.proofs.Common.{◌≡◌, ℕ, zero, suc, ◌+◌, ◌^◌, ◌<◌, List, [], ◌∷◌, ◌++◌, length, Option, Some, None, sym, subst, arith}
 use Rattle.std.proofs.lemmas.List.{length-append}
@@ -49,7 +49,7 @@ found-append xs ys a b v x y sum first = record {
       (first-append xs ys a.first b.first x.first y.first);
 }
 
--- the place of a claim behind others is a number of 32 bits
+-- the place of a claim after others is a number of 32 bits
 pub places-fit :
     (cs : List Claim) (first : Option ℕ) (count : ℕ) → IsFirstIn cs first → count + length cs < 2 ^ 32
     → IfSome first (λ place. count + place < 2 ^ 32)

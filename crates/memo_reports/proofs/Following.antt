@@ -1,4 +1,4 @@
--- What is found in the claims of the first of some records, as far as it tells of all of them.
+-- What is found in the claims of the first of some records, as far as it determines the first false one of all.
 use Rattle.std.proofs.Common.{◌≡◌, ℕ, zero, suc, ◌+◌, ◌<◌, ◌≤◌, Bool, true, false, cond, List, [], ◌∷◌, ◌++◌, length, drop, Option, Some, None, is_none, refl, sym, ap, ◌∙◌, subst, arith}
 use Rattle.std.specs.Prelude.{slice_get}
 use Rattle.thunk_spec.specs.Record.{Record}
@@ -40,7 +40,7 @@ apply_can m r can =
 pub apply_ready : (m : Machine) (r : Record) → can_apply m r ≡ true → is_ready (hart_of m r.thread).status ≡ true
 apply_ready m r can = and-right (is_none m.ending) (is_ready (hart_of m r.thread).status) (apply_can m r can)
 
--- What is found of a whole, where what was found so far is of the first so many records: the first false one among
+-- What is found of a whole, if what was found so far is of its first records: the first false one among
 -- them, or else what is found of the rest.
 abbrev pub IsSoFar : (Option ℕ → Type 0) → (Option ℕ → Type 0) → ℕ → Option ℕ → Type 0
 IsSoFar Whole Rest count None = (p : Option ℕ) → Rest p → Whole (first_of_both None count p)
@@ -69,12 +69,12 @@ pub both-nothing : (a : Option ℕ) (count : ℕ) → first_of_both a count None
 both-nothing None count = refl
 both-nothing (Some i) count = refl
 
--- nothing was looked at
+-- no claim was checked
 pub far-nothing : (Whole : Option ℕ → Type 0) → IsSoFar Whole Whole 0 None
 far-nothing Whole None whole = whole
 far-nothing Whole (Some i) whole = let e : i ≡ 0 + i = omega arith in subst (λ (k : ℕ). Whole (Some k)) e whole
 
--- claims that were executed tell of their records
+-- claims that were executed determine which of their records is false
 pub claims-far :
     (m : Machine) (rs : List Record) (cs : List Claim) (after : Machine) (first : Option ℕ)
     → AreClaims m rs cs after → IsFirstIn cs first
@@ -113,7 +113,7 @@ claims-turns m (r ∷ rs) (c ∷ cs) after led =
     ap (λ (b : Bool). cond b ((record_of m r.thread).kept.count + turns_from (apply m r) rs) 0) led.0 in
     step ∙ omega (arith, one, claims-turns (apply m r) rs cs after led.1.1)
 
--- one claim more
+-- one more claim
 pub claims-more :
     (m : Machine) (rs : List Record) (cs : List Claim) (after : Machine) (r : Record) (c : Claim)
     → AreClaims m rs cs after → slice_get rs (length cs) ≡ Some r → can_apply after r ≡ true → IsClaimOf after r c
@@ -137,7 +137,7 @@ pub drop-nil : (n : ℕ) → drop {A = Record} n [] ≡ []
 drop-nil zero = refl
 drop-nil (suc n) = refl
 
--- the record behind those that have claims
+-- the record after those that have claims
 pub get-drop : (rs : List Record) (a n place : ℕ) → a + n ≡ place → slice_get (drop a rs) n ≡ slice_get rs place
 get-drop rs zero n place is = let e : n ≡ place = omega arith in ap (slice_get rs) e
 get-drop [] (suc a) n place is =

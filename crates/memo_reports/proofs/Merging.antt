@@ -51,7 +51,7 @@ deltas-ascend low (d ∷ pages) asc =
     let parts = and_parts (leb low d.slot) (deltas_ascend (suc d.slot) pages) asc in
     rw parts.0 (deltas-ascend (suc d.slot) pages parts.1)
 
--- what is left of a list where the smallest slot is taken off
+-- the rest of a list of ascending slots without a slot, which is no greater than its first one
 record IsTaken (pages slot : ℕ) (ps left : List ℕ) : Type 0 where
   pub below : (p : ℕ) → p < slot → is_in p ps ≡ false
   pub here : is_in slot ps ≡ eqb (get_or ps 0 pages) slot

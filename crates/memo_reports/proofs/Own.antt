@@ -13,7 +13,7 @@ use Rattle.memo_reports.specs.declared.races.past.PagePast.{PagePast}
 use Rattle.memo_reports.specs.Past.{IsThreadPast, IsPagePast, races_with, IsAfter, is_misplaced}
 use Rattle.memo_reports.proofs.Tally.{bit, filter-same, filter-both, count-flat, count-append, count-cons, none-counted}
 
--- what one of a list has, each of a list has
+-- what one element of a list has, each has
 all-same :
     {X : Type 0} (P Q : X → Type 0) (xs : List X) → ((x : X) → P x → Q x) → AllByRecursion P xs → AllByRecursion Q xs
 all-same P Q [] more all = tt
@@ -74,7 +74,7 @@ racing-writing p s false is apart writes =
     ∙ filter-both (λ (a : Access). not (ltb a.number (slice_index s.seen p.thread))) (λ (a : Access). a.writes) p.all.items
     ∙ racing-reported p s false is apart
 
--- the accesses of one thread more
+-- one more thread's accesses
 pub flat-more :
     {X Y : Type 0} (f : X → List Y) (xs : List X) (i : ℕ) (x : X) → i < length xs → x ≡ get_or xs i x
     → flat_map f (take (i + 1) xs) ≡ flat_map f (take i xs) ++ f x
@@ -93,7 +93,7 @@ flat-within f xs i x less at =
     let four = ap (λ y. length (f y)) at in
     omega arith
 
--- a thread gets one access more
+-- a thread gets one more access
 pub count-set :
     (q : Access → Bool) (ps : List ThreadPast) (i : ℕ) (p p' : ThreadPast) (a : Access) → i < length ps → p ≡ get_or ps i p
     → p'.all.items ≡ p.all.items ++ a ∷ []
@@ -110,7 +110,7 @@ count-set q ps i p p' a less at more =
     let seven : count_by q [] ≡ 0 = refl in
     omega arith
 
--- no access of the thread is after the new one
+-- no access of the thread comes after the new one
 
 within-flat :
     {X Y : Type 0} (q : Y → Bool) (f : X → List Y) (xs : List X) (i : ℕ) (x : X) → i < length xs → x ≡ get_or xs i x
@@ -151,7 +151,7 @@ all-after a ps i p less at is same none =
     (none-counted (is_misplaced a) p.all.items
     (within-flat (is_misplaced a) (λ (r : ThreadPast). r.all.items) ps i p less at none)))
 
--- the accesses of each thread are as they should be
+-- the accesses of each thread have their invariant
 pub past-at :
     (page : PagePast) (ps : List ThreadPast) (i : ℕ) (p : ThreadPast) → IsPagePast page → ps ≡ page.threads.items
     → i < length ps → p ≡ get_or ps i p → IsThreadPast p

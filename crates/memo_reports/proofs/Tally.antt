@@ -28,7 +28,7 @@ count-all [] = refl
 count-all (x ∷ xs) =
     let here = count-cons (λ (y : _). true) x xs in let rest = count-all xs in omega arith
 
--- 1 where a test passed, and else 0
+-- 1 if a test passed, and else 0
 abbrev pub bit : Bool → ℕ
 bit b = cond b 1 0
 
@@ -84,7 +84,7 @@ filter-both {X = X} p q (x ∷ xs) = here (q x) (filter-both p q xs)
 
 -- numbers
 
--- the sum of what a function gives of each number below another
+-- the sum of a function over the numbers below another
 abbrev pub sum_below : (ℕ → ℕ) → ℕ → ℕ
 sum_below f zero = 0
 sum_below f (suc n) = f n + sum_below f n
@@ -118,7 +118,7 @@ sum-most f most (suc n) small =
     let next : suc n * most ≡ most + n * most = grind arith in
     omega arith
 
--- of how many numbers below another a test holds
+-- how many numbers below another pass a test
 abbrev pub tally : (ℕ → Bool) → ℕ → ℕ
 tally p n = sum_below (λ k. cond (p k) 1 0) n
 
@@ -136,7 +136,7 @@ tally-few p (suc n) = by-bit (p n) (tally-few p n)
 pub tally-none : (p : ℕ → Bool) (n : ℕ) → ((k : ℕ) → k < n → p k ≡ false) → tally p n ≡ 0
 tally-none p n none = tally-same p (λ k. false) n none ∙ sum-none n
 
--- a test of one number alone
+-- a test that one number alone passes
 pub tally-one : (p : ℕ → Bool) (i n : ℕ) → i < n → tally (λ k. p k && eqb k i) n ≡ cond (p i) 1 0
 tally-one p i zero less = absurd (omega arith)
 tally-one p i (suc n) less =
@@ -170,7 +170,7 @@ tally-one p i (suc n) less =
 
 -- lists
 
--- what a list holds, where it holds no more than one element
+-- a list with at most one element, by whether there is one
 pub one-listed :
     {X Y : Type 0} (g : X → Y) (r : Y) (is : X → Bool) (xs : List X) (b : Bool)
     → ((x : X) → is x ≡ true → g x ≡ r)
@@ -195,7 +195,7 @@ one-listed g r is (x ∷ y ∷ xs) true same all some =
     let two = count-cons (λ (y : _). true) y xs in
     omega arith)
 
--- what passes the test is at the end
+-- if elements pass a test up to a place and fail it from there on, those from there on are those that fail
 pub drop-passing :
     {X : Type 0} (p q : X → Bool) (xs : List X) (i : ℕ) → ((x : X) → q x ≡ not (p x))
     → ((k : ℕ) (d : X) → k < i → p (get_or xs k d) ≡ true)
@@ -222,7 +222,7 @@ range-push a (suc n) =
     let last : a + 1 + n ≡ a + suc n = omega arith in
     ap (λ (xs : List ℕ). a ∷ xs) (rest ∙ ap (λ (x : ℕ). range_with_len (a + 1) n ++ x ∷ []) last)
 
--- one number more
+-- one more number
 pub rows-more :
     {A : Type 0} (f : ℕ → List A) (n : ℕ)
     → flat_map f (range_with_len 0 (n + 1)) ≡ flat_map f (range_with_len 0 n) ++ f n
@@ -247,7 +247,7 @@ rows-length f (suc n) =
     let both = length-append (flat_map f (range_with_len 0 n)) (f n) in
     omega arith
 
--- the first rows, where their number is told
+-- the concatenation of rows, each of which a function gives of its number
 pub rows-are :
     {A : Type 0} (f : ℕ → List A) (rows : List (List A)) (low : ℕ)
     → ((i : ℕ) → i < length rows → get_or rows i [] ≡ f (low + i))
@@ -270,7 +270,7 @@ range-split low (suc m) n =
     ∙ ap (λ (xs : List ℕ). low ∷ xs)
     (range-split (low + 1) m n ∙ ap (λ (k : ℕ). range_with_len (low + 1) m ++ range_with_len k n) two)
 
--- the first elements are those of the first rows, where these are enough
+-- the first elements are those of the first rows, if these are enough
 pub rows-first :
     {A : Type 0} (f : ℕ → List A) (most m n : ℕ) → m ≤ n → most ≤ length (flat_map f (range_with_len 0 m))
     → take most (flat_map f (range_with_len 0 m)) ≡ take most (flat_map f (range_with_len 0 n))
@@ -281,7 +281,7 @@ rows-first f most m n less enough =
     ∙ ap (take most) (flat_map-append f (range_with_len 0 m) (range_with_len (0 + m) (n - m)))
     ∙ take-append-le most (flat_map f (range_with_len 0 m)) (flat_map f (range_with_len (0 + m) (n - m))) enough)
 
--- a row gets one element more
+-- a row gets one more element
 pub rows-pushed :
     {A : Type 0} (rows : List (List A)) (i : ℕ) (x : A) → i < length rows
     → length (flat_map (λ (row : List A). row) (set rows i (get_or rows i [] ++ x ∷ [])))
@@ -294,7 +294,7 @@ rows-pushed rows i x less =
     let five : length (x ∷ []) ≡ 1 = refl in
     omega arith
 
--- what passes one test is counted by another
+-- elements that pass one test are counted by another
 pub count-filter :
     {X : Type 0} (p q : X → Bool) (xs : List X) → count_by p (filter q xs) ≡ count_by (λ (x : X). q x && p x) xs
 count-filter p q xs =

@@ -1,4 +1,4 @@
--- Pages and records that were read one after the other are those of a history that has an encoding, and the other way.
+-- Pages and records that were read one after the other are those of a history that has an encoding, and conversely.
 use Rattle.std.proofs.Common.{◌≡◌, ℕ, zero, suc, ◌+◌, ◌^◌, ◌<◌, ◌≤◌, true, leb, eq-eqb, List, [], ◌∷◌, ◌++◌, length, map, refl, sym, ap, subst, ◌∙◌, append_assoc, arith}
 use Rattle.std.specs.Prelude.{slice_index_or}
 use Rattle.std.specs.List.{AllByRecursion, fold}
@@ -28,7 +28,7 @@ page_at (p ∷ pool) (suc i) h lt = page_at pool i h.1 (omega arith)
 
 -- ---- read pages
 
--- What read pages that were read are, where this part of the pool is used.
+-- What holds of read pages that were read, if this part of the pool is used.
 pub record AreReads (pages : List Mapped) (pool : Pages) (low : ℕ) (used : Pages) (reads : List ReadPage) (last : ℕ) :
     Type 0 where
   pub ascend : reads_ascend low reads ≡ true

@@ -1,5 +1,5 @@
--- Worked examples, each computed by the checker: the bytes of a record, of all that stands before the records, what is
--- refused first, and which memos come from before M. Pages are cut to their first bytes.
+-- Worked examples, each computed by the checker: the bytes of a record, the fields before the records, which refusal
+-- comes first, and which memos come from before M. Pages are cut to their first bytes.
 use Rattle.std.proofs.Common.{◌≡◌, true, false, Bool, ℕ, List, [], ◌∷◌, ◌++◌, ◌&&◌, cond, replicate, is_none, refl, Some, None, Err}
 use Rattle.isa_spec.specs.Registers.{Registers}
 use Rattle.isa_spec.specs.declared.Cause.TheVariants as cause
@@ -19,12 +19,12 @@ use Rattle.memo_spec.specs.Encoding.{distinct, end_number, mask, record_bytes, b
 use Rattle.memo_spec.specs.Reading.{behind_version, incoherent_from, taken_as, reading}
 use Rattle.memo_spec.specs.Old.{is_of_m, known_word, last_ends_at_m}
 
--- A page that stands twice among the read pages stands once in the pool, where it came first.
+-- A page that occurs twice among the read pages is once in the pool, where it came first.
 pub distinct-two :
     distinct ((5 ∷ []) ∷ (7 ∷ []) ∷ (5 ∷ []) ∷ (6 ∷ []) ∷ []) ≡ (5 ∷ []) ∷ (7 ∷ []) ∷ (6 ∷ []) ∷ []
 distinct-two = refl
 
--- An end by a trap is its cause's number; a call and want of fuel come behind these.
+-- An end by a trap is its cause's number; a call and the end of the fuel come after these.
 pub end-trap : end_number (Trap cause.StoreAccess) ≡ 7
 end-trap = refl
 
@@ -79,7 +79,7 @@ pub record-one :
     ++ (1 ∷ 0 ∷ []) ++ (0x10 ∷ 0x00 ∷ 0x00 ∷ 0x00 ∷ 0b10001001 ∷ 0xaa ∷ 0xbb ∷ 0xcc ∷ [])
 record-one = refl
 
--- A history of no record: what stands before the records. It can't be encoded, for it has no end; its fields can.
+-- A history of no record: what comes before the records. It can't be encoded, for it has no end; its fields can.
 abbrev pub bare : History
 bare = record {
   setup = record { elf = 0x7f ∷ 0x45 ∷ []; input = 1 ∷ 2 ∷ 3 ∷ []; fuel = 0x0302; limit = 6 };
@@ -101,7 +101,7 @@ pub body-second :
     body Version2 bare ≡ (0x49 ∷ 0x54 ∷ 0x48 ∷ 0x4d ∷ 2 ∷ 0 ∷ 0 ∷ 0 ∷ []) ++ (3 ∷ 0 ∷ 0 ∷ 0 ∷ []) ++ bare-behind
 body-second = refl
 
--- Less than a head and a digest; another magic number; another version. Each is refused before what comes behind it.
+-- Less than a head and a digest; another magic number; another version. Each is refused before what comes after it.
 pub short : reading (replicate 39 0) ≡ Err refusal.Short
 unfolding reading
 short = refl
@@ -127,7 +127,7 @@ pub other-profile : taken_as Version2 (magic ++ (2 ∷ 0 ∷ 0 ∷ 0 ∷ []) ++ 
 unfolding taken_as behind_version
 other-profile = refl
 
--- The fuel is two, so a record that it ended after one turn doesn't fit.
+-- The fuel is two, so a record that ended by it after one turn doesn't fit.
 pub fuel-incoherent : incoherent_from 0 (first longer) (early ∷ []) ≡ Some 0
 fuel-incoherent = rw early-fits (never (is_none (first longer).ending))
   where
@@ -171,11 +171,11 @@ stored mask bytes = record { slot = 0; mask = mask; bytes = bytes } ∷ []
 abbrev pub mul : List ℕ
 mul = 0x33 ∷ 0x05 ∷ 0xB5 ∷ 0x02 ∷ []
 
--- Another page was read, and bytes of it were stored, before the one that counts.
+-- Another page was read, and bytes of it were stored, before the relevant one.
 abbrev pub elsewhere : List ReadPage
 elsewhere = record { slot = 1; bytes = 7 ∷ 7 ∷ 7 ∷ 7 ∷ [] } ∷ []
 
--- The word is told by what was read; by what was read under what was stored; and by what was stored alone.
+-- The word follows from what was read, from stored bytes over what was read, and from stored bytes alone.
 pub reported-read : known_word pages (illegal (read mul) []).kept 0x10000 ≡ Some 0x02B50533
 reported-read = refl
 
@@ -191,7 +191,7 @@ pub reported-stored :
     known_word pages (illegal elsewhere (stored (true ∷ true ∷ true ∷ true ∷ []) mul)).kept 0x10000 ≡ Some 0x02B50533
 reported-stored = refl
 
--- Where a byte is neither read nor stored no word is told, nor is one where the next page would go on and isn't mapped.
+-- It is unknown if a byte of it was neither read nor stored, or if it crosses into a page that isn't mapped.
 pub reported-none :
     known_word pages (illegal elsewhere (stored (true ∷ true ∷ false ∷ true ∷ []) (0x33 ∷ 0x05 ∷ 0x02 ∷ []))).kept
     0x10000
@@ -208,7 +208,7 @@ old-read = refl
 pub old-last : last_ends_at_m pages (one ∷ illegal (read mul) [] ∷ []) ≡ true
 old-last = refl
 
--- Not so where a byte of the word is missing, at another word, by another end, or before the last record.
+-- Not so if a byte of the word is missing, at another word, by another end, or before the last record.
 pub missing-not-old :
     last_ends_at_m pages
     (illegal elsewhere (stored (true ∷ true ∷ false ∷ true ∷ []) (0x33 ∷ 0x05 ∷ 0x02 ∷ [])) ∷ [])

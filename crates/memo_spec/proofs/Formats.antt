@@ -1,4 +1,4 @@
--- A reader agrees with an encoding: what it reads is encoded so, and what is encoded so it reads again.
+-- A reader agrees with an encoding: what it reads is encoded so, and what is encoded so is read again.
 use Rattle.std.proofs.Common.{◌≡◌, ℕ, zero, suc, ◌+◌, ◌^◌, ◌<◌, ◌≤◌, Bool, true, false, cond, ltb, List, [], ◌∷◌, ◌++◌, length, get_or, take, drop, Result, Ok, Err, refl, sym, ap, subst, ◌∙◌, append_assoc, arith, inl, inr}
 use Rattle.std.specs.List.{AllByRecursion, flat_map}
 use Rattle.std.specs.Int.{Width, w8, w16, w32, byte_len, from_le_bytes, to_le_bytes}
@@ -28,12 +28,12 @@ pub AreBytes-of : (bytes : List ℕ) → IsBytes bytes → AreBytes bytes
 AreBytes-of [] h = tt
 AreBytes-of (b ∷ bytes) h = (h 0, AreBytes-of bytes (λ i. h (suc i)))
 
--- These bytes were taken, and bytes are left.
+-- These bytes were taken, and the others remain.
 pub record Took (p : Place) (text : List ℕ) (q : Place) : Type 0 where
   pub takes : Takes text p q
   pub rest : IsBytes q.left
 
--- The place behind some bytes, where these are left.
+-- The place after some bytes, if these remain.
 abbrev pub behind : Place → List ℕ → List ℕ → Place
 behind p text rest = record { taken = p.taken + length text; left = rest }
 
@@ -113,7 +113,7 @@ agrees_done {B = B} b = record {
       rw (fit, at) refl;
 }
 
--- The same format, said otherwise.
+-- The same format, defined otherwise.
 pub agrees_said : {A : Type 0} (read : Reader A) (encode said : A → List ℕ) (Fit Fits : A → Type 0)
     → Agrees read encode Fit
     → ((a : A) → Fit a → Fits a × (encode a ≡ said a)) → ((a : A) → Fits a → Fit a) → Agrees read said Fits
@@ -268,7 +268,7 @@ agrees_number w limit wide = record {
       rw (e, long, wide.again n rest fit, drop_at (to_le_bytes w n) rest (byte_len w) len, len) refl;
 }
 
--- ---- so many of a kind
+-- ---- a number of things of a kind
 
 pub agrees_each : {A : Type 0} (read : Reader A) (encode : A → List ℕ) (Fit : A → Type 0) → Agrees read encode Fit
     → (n : ℕ)
@@ -303,7 +303,7 @@ agrees_each {A = A} read encode Fit one (suc n) =
     first_left [] h = absurd (omega (arith, h.0))
     first_left (x ∷ xs) h = (x, h.1.0, ((omega (arith, h.0), h.1.1), refl))
 
--- ---- so many, each in the state that the one before it leaves
+-- ---- a number of things, each in the state after the one before it
 
 abbrev pub Chained : {S A : Type 0} → (S → A × S → Type 0) → S → List A → S → Type 0
 Chained Fit s [] t = t ≡ s

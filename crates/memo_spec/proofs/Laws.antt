@@ -1,4 +1,4 @@
--- What bytes are taken as is the coherent history that they encode.
+-- Bytes are accepted as the coherent history that they encode.
 use Rattle.std.proofs.Common.{◌≡◌, ℕ, ◌+◌, ◌-◌, ◌≤◌, Bool, true, false, not, cond, ltb, List, [], ◌∷◌, ◌++◌, length, take, drop, Option, Some, None, Result, Ok, Err, refl, sym, ap, subst, ◌∙◌, arith, inl, inr}
 use Rattle.std.specs.Prelude.{◌==◌, ◌&&◌, bytes_eq, is_none, is_some}
 use Rattle.std.proofs.lemmas.Bool.{ltb-false, le-ltb, eqb-true}
@@ -77,7 +77,7 @@ memo_read format h fit =
     let o = opens_so format h in
     pass format (text ++ sha256 text) text long o.0 o.1 k.0 k.1 ∙ body_taken format h fit
 
--- The history that bytes encode can be had from them.
+-- The history that bytes encode can be read from them.
 text_of : (format : Format) (h : History) → IsEncodable h
     → behind_version format (opens (drop 8 (take (length (memo_in format h) - 32) (memo_in format h))))
     ≡ Ok (h, behind (opens (rest_bytes format h)) (rest_bytes format h) [])
@@ -99,7 +99,7 @@ one_in format bytes a b p q =
     ∙ text_of format b q.fits in
     ap (λ (x : History × Place). x.0) (ok_is _ _ both)
 
--- The bytes tell the format.
+-- The bytes determine the format.
 one_format : (f g : Format) (bytes : List ℕ) (a b : History) → EncodesIn f bytes a → EncodesIn g bytes b → f ≡ g
 one_format f g bytes a b p q =
     let e : Some f ≡ Some g = sym (opens_so f a).1 ∙ ap (λ (l : List ℕ). format_of (version_of l)) (sym p.is ∙ q.is)
@@ -150,7 +150,7 @@ encoded_is_read bytes h t =
     ap reading t.encodes.is ∙ memo_read t.format h t.encodes.fits
     ∙ todays_taken t.format h t.of_today (coherent_is h.records (first h.setup) 0 ∙ t.coherent)
 
--- What is written of a history that holds together is taken as it.
+-- The memo of a coherent history is accepted as that history.
 pub memo_taken : (h : History) → IsEncodable h → is_coherent h ≡ true → IsTaken (memo h) h
 unfolding memo
 memo_taken h fit coherent = record {
@@ -199,7 +199,7 @@ equal_bytes xs ys e = elim (bytes_determine xs ys) [ inl h ↦ h.1 | inr h ↦ a
     differ true p q = absurd cc
     differ false p q = absurd cc
 
--- The format of a version has it for its number.
+-- If a version has a format, the version is that format's number.
 version_is : (v : ℕ) (format : Format) → format_of v ≡ Some format → v ≡ number format
 version_is v format e = first_of_two (v == 1) refl e
   where

@@ -27,7 +27,7 @@ step a b = elim (cases_lt a b) [
   | inr le ↦ le-ltb a b le ∙ sym (le-ltb (suc a) (suc b) (omega arith))
 ]
 
--- A page is in the front of a pool exactly where its index is there.
+-- A page is in the front of a pool exactly if its index is there.
 pub has_in_front : (s t : Pages) (page : List ℕ) → has_page s page ≡ ltb (index_in (s ++ t) page) (length s)
 has_in_front [] t page = sym (le-ltb (index_in t page) 0 (omega arith))
 has_in_front (p ∷ s) t page = elim (bytes_determine page p) [ inl h ↦ here h.0 | inr h ↦ later h.0 (has_in_front s t page) ]
@@ -56,7 +56,7 @@ front_index (p ∷ s) t page lt = elim (bytes_determine page p) [ inl h ↦ here
         let j : index_in (p ∷ s) page ≡ suc (index_in s page) = rw h (omega arith) in
         j ∙ ap suc (e (omega (arith, k, lt))) ∙ sym k
 
--- What comes behind a pool doesn't move what is in it.
+-- A page that is appended to a pool doesn't change the index of another.
 pub index_push : (s t : Pages) (page : List ℕ) → index_in s page < length s → index_in (s ++ t) page ≡ index_in s page
 index_push [] t page lt = absurd (omega arith)
 index_push (p ∷ s) t page lt = elim (bytes_determine page p) [ inl h ↦ here h.0 | inr h ↦ later h.0 (index_push s t page) ]
@@ -121,7 +121,7 @@ with_front : (s : Pages) (page : List ℕ) (b : Bool) → has_page s page ≡ b 
 with_front s page true h = ([], rw h (sym (append-nil s)))
 with_front s page false h = (page ∷ [], rw h refl)
 
--- What is in a pool stays in front.
+-- Adding pages to a pool appends to it.
 pub fold_front : (ps s : Pages) → (t : Pages) × (fold with_page s ps ≡ s ++ t)
 fold_front [] s = ([], sym (append-nil s))
 fold_front (p ∷ ps) s =
@@ -129,9 +129,9 @@ fold_front (p ∷ ps) s =
     let b = fold_front ps (with_page s p) in
     (a.0 ++ b.0, b.1 ∙ ap (λ (l : Pages). l ++ b.0) a.1 ∙ append_assoc s a.0 b.0)
 
--- ---- one read page after others
+-- ---- one more read page
 
--- The pool that is used after a page was read, where the used one is in front.
+-- The used part of the pool after a page was read, if the used part is its front.
 pub read_step : (used rest : Pages) (page : List ℕ) → index_in (used ++ rest) page ≤ length used
     → index_in (used ++ rest) page < length (used ++ rest)
     → (more : Pages) × (with_page used page ++ more ≡ used ++ rest)
@@ -164,7 +164,7 @@ read_step used rest page le lt = elim (cases_lt (index_in (used ++ rest) page) (
               (omega (arith, length-append used (page ∷ []))),
         )
 
--- The other way: a page that is in the pool after it, and what is used then.
+-- Conversely: a page that is in the pool after it, and what is used then.
 pub write_step : (used rest : Pages) (page : List ℕ) (b : Bool) → has_page used page ≡ b
     → (index_in (with_page used page ++ rest) page ≤ length used)
     × (index_in (with_page used page ++ rest) page < length (with_page used page ++ rest))

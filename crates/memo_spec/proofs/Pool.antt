@@ -1,11 +1,11 @@
--- Pages in a pool: each stands at one index.
+-- Pages in a pool: each has one index.
 use Rattle.std.proofs.Common.{◌≡◌, ◌⊎◌, ℕ, suc, ◌^◌, ◌<◌, true, false, List, [], ◌∷◌, length, get_or, drop, eqb, refl, sym, ap, ◌∙◌, arith, inl, inr}
 use Rattle.std.specs.Prelude.{bytes_eq, slice_index_or}
 use Rattle.std.specs.List.{AllByRecursion}
 use Rattle.std.proofs.lemmas.Bool.Decides.{eqb_tells}
 use Rattle.memo_spec.specs.Encoding.{AreBytes, index_in}
 
--- A test of bytes tells whether they are the same.
+-- A test of bytes determines whether they are the same.
 pub bytes_determine : (xs ys : List ℕ) → ((bytes_eq xs ys ≡ true) × (xs ≡ ys)) ⊎ ((bytes_eq xs ys ≡ false) × (xs ≡ ys → ⊥))
 bytes_determine [] [] = inl (refl, refl)
 bytes_determine [] (y ∷ ys) = inr (refl, λ e. absurd (omega (arith, ap length e)))
@@ -21,7 +21,7 @@ bytes_determine (x ∷ xs) (y ∷ ys) = elim (eqb_tells x y) [
     rest (inl k) t e = inl (rw (t, k.0) refl, cc)
     rest (inr k) t e = inr (rw (t, k.0) refl, λ p. k.1 (ap (drop 1) p))
 
--- A pool as it is read: its pages are pages, no two are equal, and their number is a word.
+-- A pool as it is read: its pages have the size of pages, no two are equal, and their number is a word.
 pub record IsPool (pool : List (List ℕ)) : Type 0 where
   pub once : (i : ℕ) → i < length pool → index_in pool (slice_index_or pool i []) ≡ i
   pub pages : AllByRecursion (λ (page : List ℕ). (length page ≡ 4096) × AreBytes page) pool

@@ -233,7 +233,7 @@ agrees_raw pages fuel pool s is_map is_pool =
     ends : ℕ → Reader Out
     ends thread = ruled (number_at w8) (below 10) >>= λ end. counts thread end
 
--- ---- the record, as it is said
+-- ---- the record, as it is defined
 
 -- A record that was read in a state, and the next state.
 pub record FitsRecord (pages : List Mapped) (fuel : ℕ) (pool : List (List ℕ)) (s : RecordState)

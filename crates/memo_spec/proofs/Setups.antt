@@ -26,7 +26,7 @@ accepted_ok : (o : Option elf.Refusal) (bytes : List ℕ) (p : Place) (x : List 
 accepted_ok None bytes p x e = (refl, refl)
 accepted_ok (Some r) bytes p x e = absurd cc
 
--- An executable is taken exactly where it has no refusal.
+-- An executable is accepted exactly if it has no refusal.
 agrees_accepted : (bytes : List ℕ) → Agrees (accepted (refusal_of bytes) bytes) (λ _. [])
     (λ c. (c ≡ bytes) × (refusal_of bytes ≡ None))
 agrees_accepted bytes = record {

@@ -1,4 +1,4 @@
--- The reader of a history agrees with its encoding, and what bytes are taken as is the history that they encode.
+-- The reader of a history agrees with its encoding, and bytes are accepted as the history that they encode.
 use Rattle.std.proofs.Common.{◌≡◌, ℕ, ◌^◌, ◌<◌, Bool, true, leb, eq-eqb, List, [], ◌∷◌, ◌++◌, length, refl, sym, ap, subst, ◌∙◌, append_assoc, arith}
 use Rattle.std.specs.Prelude.{◌==◌}
 use Rattle.std.specs.List.{flat_map, concat}
@@ -112,7 +112,7 @@ agrees_raw =
     entries setup = limited (number_at w32) (is_within 1 setup.limit) (Limit limit.Entries) >>= λ n. ruled
         (pool_and_records_at setup n) used_up >>= λ x. done (made setup x)
 
--- ---- a history, as it is said
+-- ---- a history, as it is defined
 
 encodable : (h : History) → Raw h → IsEncodable h
 encodable h raw =
@@ -198,7 +198,7 @@ pub agrees_history : Agrees history_at raw_bytes IsEncodable
 agrees_history = agrees_said history_at raw_bytes raw_bytes Raw IsEncodable agrees_raw
     (λ h raw. (encodable h raw, refl)) raw_again
 
--- ---- all behind the version
+-- ---- all after the version
 
 abbrev pub number : Format → ℕ
 number Version1 = 1

@@ -1,4 +1,4 @@
--- Worked examples, each computed by the checker. Pages are cut to their first bytes: a definition looks no further.
+-- Worked examples, each computed by the checker. Pages are cut to their first bytes: a definition reads no others.
 use Rattle.std.proofs.Common.{◌≡◌, true, false, List, [], ◌∷◌, Some, None, refl}
 use Rattle.memory_spec.specs.declared.Size.TheVariants.{One, Two, Four}
 use Rattle.memory_spec.specs.Pages.{Mapped, Memory, slot_of, permission_at, allows, read_right, write_right, execute_right, ascends_above}
@@ -24,7 +24,7 @@ slot_of-first = refl
 pub slot_of-last : slot_of map 0x20000 ≡ 2
 slot_of-last = refl
 
--- where no page has it, the slot is past the map, and nothing is permitted
+-- if no page has it, the slot is past the map, and nothing is permitted
 pub slot_of-unmapped : slot_of map 0x12000 ≡ 3
 slot_of-unmapped = refl
 
@@ -58,7 +58,7 @@ pub loaded-byte : loaded map memory 0x20003 One ≡ Some 6
 unfolding loaded number_at number_in permission_at
 loaded-byte = refl
 
--- a fetch needs X, a load R, a store W; nothing is found where no page is mapped
+-- a fetch needs X, a load R, a store W; nothing is found if no page is mapped
 pub fetched-no_right : fetched map memory 0x11000 ≡ None
 unfolding fetched number_at number_in permission_at
 fetched-no_right = refl
@@ -88,7 +88,7 @@ pub bytes_stored-byte : bytes_stored 0x11000 One 0x1FF ≡ record { address = 0x
 unfolding bytes_stored
 bytes_stored-byte = refl
 
--- two stores to one place: the later one stands, and no other byte changes
+-- two stores to one place: the later one is kept, and no other byte changes
 abbrev pub two_stores : List StoredByte
 two_stores = record { address = 0x11001; byte = 1 } ∷ record { address = 0x11001; byte = 2 } ∷ []
 
@@ -99,7 +99,7 @@ pub with_stores-in_order :
 unfolding with_byte
 with_stores-in_order = refl
 
--- a store where no page is mapped changes nothing
+-- a store changes nothing if no page is mapped at its address
 pub with_stores-unmapped : with_stores map memory (record { address = 0x12001; byte = 1 } ∷ []) ≡ memory
 unfolding with_byte
 with_stores-unmapped = refl

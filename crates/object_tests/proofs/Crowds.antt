@@ -1,4 +1,4 @@
--- Who waits nowhere goes on so, unless it makes a call that blocks.
+-- A thread that waits nowhere doesn't wait later, unless it makes a call that blocks.
 use Rattle.std.proofs.Common.{◌≡◌, ◌≢◌, ℕ, ◌+◌, ◌<◌, ◌≤◌, ◌==◌, Bool, true, false, ◌&&◌, not, List, [], ◌∷◌, Option, length, zero, suc, refl, slice_index_or, slice_set, arith, ap, sym, subst, ◌∙◌, ⊎_elim, true≢false}
 use Rattle.std.specs.List.{list_any}
 use Rattle.std.proofs.lemmas.Bool.{cases_eq}
@@ -23,7 +23,7 @@ keeps o after e t call done kept there u =
     subst (λ (r : Effect × Objects). waits_at r.1 u + places u r.0.woken ≡ waits_at o u + entering t r.0.fate u)
     (sym (done (λ p n. false))) (act_keeps (λ p n. false) o t call kept there u)
 
--- who stands in a queue stands there at least once
+-- a thread in a queue is counted there at least once
 found : (u : ℕ) (q : List ℕ) → list_any (λ w. w == u) q ≡ true → 1 ≤ places u q
 found u [] is = absurd (true≢false (sym is))
 found u (w ∷ q) is = grind (arith, places-cons u w q, found u q, is)
@@ -32,7 +32,7 @@ entering_none : (t : ℕ) (f : Fate) (u : ℕ) → waiting f ≡ 0 → entering 
 unfolding entering
 entering_none t f u none = grind (arith, none)
 
--- a mark that was set and isn't there was not set to be
+-- a flag that isn't set afterwards was not set by the write
 set_mark : (marks : List Bool) (t : ℕ) (b : Bool) → slice_index_or (slice_set marks t b) t true ≡ false → b ≡ false
 set_mark [] t b is = absurd (true≢false is)
 set_mark (m ∷ marks) zero b is = is
@@ -43,7 +43,7 @@ unmarked_before false woken apart is = refl
 unmarked_before true false apart is = absurd (true≢false is)
 unmarked_before true true apart is = absurd (true≢false apart)
 
--- who was marked as one that doesn't wait after a call waits nowhere, where that was so before the call
+-- a thread that is marked as not waiting after a call waits nowhere, if that was so before the call
 marked_after :
     (o after : Objects) (e : Effect) (t : ℕ) (call : Call) (before marks : List Bool) (blocked : Bool)
     → ((readable : ℕ → ℕ → Bool) → (e, after) ≡ act readable o t call) → IsKept o → t < length o.threads
@@ -85,7 +85,7 @@ marked_after o after e t call before marks blocked done kept there idle free sta
         (sym (marked u) ∙ unmarked) in
         ⊎_elim (λ same. caller same kept_mark) (λ other. another other kept_mark) (cases_eq u t)
 
--- the same where the caller's place and who was woken are told by equal terms
+-- the same if the caller's place and the woken threads are given by equal terms
 pub marked_there :
     (o after : Objects) (e : Effect) (t place : ℕ) (call : Call) (before marks : List Bool) (blocked : Bool) (f : Fate)
     (woken : List ℕ)

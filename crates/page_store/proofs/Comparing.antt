@@ -7,7 +7,7 @@ use Rattle.std.specs.Cmp.Lexicographic.{pointwise, pointwise_decides}
 use Rattle.std.specs.Str.{bytes_eq}
 use Rattle.memory_spec.specs.Pages.{Memory, page_of}
 
--- what decides whether two lists of pages are the same is what compares them page by page
+-- whether two lists of pages are the same is decided by a comparison page by page
 pub compared : (answer : Bool) (a b : Memory) → Decides answer (a ≡ b) → answer ≡ pointwise bytes_eq a b
 compared answer a b decides =
     one_answer answer (pointwise bytes_eq a b) decides (pointwise_decides bytes_eq-Decides a b)
@@ -23,7 +23,7 @@ pub same_page :
 same_page a b slot p q in_a in_b equal =
     sym in_a ∙ (bytes_eq-Decides p q).0 (opposite (bytes_eq p q) false equal) ∙ in_b
 
--- a page that differs is enough
+-- one page that differs is enough
 pub differ :
     (a b : Memory) (slot : ℕ) (p q : List ℕ) → p ≡ page_of a slot → q ≡ page_of b slot → not (bytes_eq p q) ≡ true
     → Decides false (a ≡ b)
@@ -33,7 +33,7 @@ differ a b slot p q in_a in_b other = (
       ∙ (bytes_eq-Decides p q).1 (in_a ∙ ap (λ m. page_of m slot) same ∙ sym in_b),
 )
 
--- one page more is the same
+-- one more page is the same
 pub same-more :
     (a b : Memory) (slot : ℕ) → slot < length a → slot < length b
     → take slot a ≡ take slot b → page_of a slot ≡ page_of b slot → take (slot + 1) a ≡ take (slot + 1) b

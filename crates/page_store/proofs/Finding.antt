@@ -10,7 +10,7 @@ use Rattle.thunk_spec.specs.Ascending.{deltas_ascend}
 abbrev with_delta : Memory → PageDelta → Memory
 with_delta m d = set m d.slot (spread d.mask d.bytes (page_of m d.slot))
 
--- deltas of later pages leave it
+-- deltas of later pages don't change it
 above :
     (m : Memory) (delta : List PageDelta) (low slot : ℕ) → deltas_ascend low delta ≡ true → slot < low
     → page_of (masked m delta) slot ≡ page_of m slot
@@ -23,7 +23,7 @@ above m (d ∷ delta) low slot ascends lt =
     above (with_delta m d) delta (suc d.slot) slot parts.1 next
     ∙ get_or-set_other m d.slot slot (spread d.mask d.bytes (page_of m d.slot)) [] other
 
--- the page that one delta leaves depends on the page before it alone
+-- what one delta makes of a page depends only on that page before
 after_one :
     (m n : Memory) (d : PageDelta) (slot : ℕ) → length m ≡ length n → page_of m slot ≡ page_of n slot
     → slot < length m → page_of (with_delta m d) slot ≡ page_of (with_delta n d) slot
@@ -47,7 +47,7 @@ depends m n (d ∷ delta) slot count same lt =
     (length-set m d.slot _ ∙ count ∙ sym (length-set n d.slot _)) (after_one m n d slot count same lt)
     (omega (arith, lt, length-set m d.slot (spread d.mask d.bytes (page_of m d.slot))))
 
--- A delta of another page is passed over.
+-- A delta of another page is skipped.
 pub passed :
     (m : Memory) (d : PageDelta) (rest : List PageDelta) (slot : ℕ) → (d.slot ≡ slot → ⊥) → slot < length m
     → page_of (masked m (d ∷ rest)) slot ≡ page_of (masked m rest) slot
@@ -56,7 +56,7 @@ passed m d rest slot other lt =
     (get_or-set_other m d.slot slot _ [] (λ e. other (sym e)))
     (omega (arith, lt, length-set m d.slot (spread d.mask d.bytes (page_of m d.slot))))
 
--- The slots of the deltas behind one are greater.
+-- The slots of the deltas after one are greater.
 pub behind :
     (delta rest : List PageDelta) (d : PageDelta) (i low : ℕ) → deltas_ascend low delta ≡ true → drop i delta ≡ d ∷ rest
     → deltas_ascend (suc d.slot) rest ≡ true

@@ -1,4 +1,4 @@
--- A page that is another page once some of its bytes were written, word by word of a mask.
+-- A page that becomes another one if some of its bytes are written, word by word of a mask.
 use Rattle.std.proofs.Common.{◌≡◌, ℕ, ◌+◌, ◌-◌, ◌%◌, ◌^◌, ◌<◌, ◌≤◌, ◌==◌, Bool, true, false, not, cond, List, length, map, get_or, take, drop, Decides, inl, inr, refl, ap, sym, ◌∙◌, arith, nat_eq, bit_and, w8, w64}
 use Rattle.std.proofs.lemmas.Bool.{cases_lt, eqb-true, eqb-false, eq-eqb}
 use Rattle.std.specs.Int.{bit_at, bit_not}
@@ -12,7 +12,7 @@ use Rattle.thunk_spec.specs.Delta.{chosen, spread}
 use Rattle.thunk_spec.proofs.Merging.{merged, spread-chosen}
 use Rattle.page_store.proofs.Picking.{length-merged, merged-at, marked_at}
 
--- a page has written bytes at the 64 places from a place on, once they were written where a bit is set in a word
+-- a page has the written bytes at 64 places, once they were written at those whose bit is set in a word
 abbrev pub GivesWord : List ℕ → List ℕ → ℕ → ℕ → Type 0
 GivesWord page written first word =
     (k : ℕ) → k < 64
@@ -67,7 +67,7 @@ as_bit : (b : Bool) → ◌≡◌ {A = ℕ} (cond (not b) 1 0) (cond b 0 1)
 as_bit true = refl
 as_bit false = refl
 
--- the places at which they do, as the bits of a word
+-- the places at which they differ, as the bits of a word
 pub differs_at :
     (xs ys : List ℕ) (k : ℕ) → length xs ≡ 64 → length ys ≡ 64 → k < 64
     → bit_at (mask_l (map (top 7) (zip2 (λ a b. cond (differ a b) 255 0) xs ys)) % 2 ^ 64) k
@@ -80,13 +80,13 @@ differs_at xs ys k many same lt =
     ∙ ap (λ b. cond b 1 0) (get_or-zip2 differ xs ys k 0 0 false (omega (arith, many, lt)) (omega (arith, same, lt)))
     ∙ as_bit (nat_eq (get_or xs k 0) (get_or ys k 0))
 
--- A word of the places at which two pages differ, from a place on.
+-- The places at which two pages differ, from a place on, as a word.
 abbrev pub Differing : List ℕ → List ℕ → ℕ → ℕ → Type 0
 Differing page written first differs =
     (k : ℕ) → k < 64
     → bit_at differs k ≡ cond (get_or page (first + k) 0 == get_or written (first + k) 0) 0 1
 
--- a place that isn't marked has the written byte, where no such place differs
+-- a place that isn't marked has the written byte, if no such place differs
 same_unmarked :
     (page written : List ℕ) (first word differs k : ℕ) → Differing page written first differs → k < 64 → word < 2 ^ 64
     → bit_and differs (bit_not w64 word) ≡ 0 → (marked : Bool) → (bit_at word k == 1) ≡ marked
@@ -101,7 +101,7 @@ same_unmarked page written first word differs k each lt small none false is fals
     let zero_here = ap (λ n. bit_at n k) none ∙ bit_at-zero k in
     absurd (omega (arith, bit, free, both, zero_here, eqb-false _ _ is, bit_at-lt word k))
 
--- no unmarked place differs, where all places have the written byte then
+-- no unmarked place differs, if all places have the written byte then
 none_differs :
     (page written : List ℕ) (first word differs k : ℕ) → Differing page written first differs → k < 64 → word < 2 ^ 64
     → GivesWord page written first word → (marked : Bool) → (bit_at word k == 1) ≡ marked
@@ -118,7 +118,7 @@ none_differs page written first word differs k each lt small gives false is =
 none_beyond : (differs other k : ℕ) → differs < 2 ^ 64 → 64 ≤ k → bit_at (bit_and differs other) k ≡ 0
 none_beyond differs other k fits past = omega (arith, bit_at_and differs other k, bit_at_above differs 64 k fits past)
 
--- the bytes that there are then, by the places at which they differ from the written ones
+-- the bytes after the writing, by the places at which they differ from the written ones
 pub given_marked :
     (page written : List ℕ) (first word differs : ℕ) (answer : Bool)
     → Differing page written first differs → word < 2 ^ 64 → differs < 2 ^ 64
@@ -138,7 +138,7 @@ given_marked page written first word differs answer each small fits is = (
       ])),
 )
 
--- the same at the first so many places of a page
+-- the same at the first n places of a page
 abbrev pub Gives : List Bool → List ℕ → List ℕ → ℕ → Type 0
 Gives m page written n =
     (k : ℕ) → k < n → cond (get_or m k false) (get_or written k 0) (get_or page k 0) ≡ get_or written k 0
@@ -151,7 +151,7 @@ given_word m page written i word n is within gives k lt =
     ap (λ b. cond b (get_or written (i + k) 0) (get_or page (i + k) 0)) (marked_at m i word k is lt)
     ∙ gives (i + k) (omega arith)
 
--- the places of one word more
+-- the places of one more word
 pub given_more :
     (m : List Bool) (page written : List ℕ) (i word n : ℕ)
     → word ≡ mask_l (chunk i 64 m) → n ≡ i + 64 → Gives m page written i → GivesWord page written i word
@@ -168,7 +168,7 @@ given_more m page written i word n is next before here k lt =
           ∙ ap (λ p. get_or written p 0) place
     ]
 
--- Places up to some are known to have the written bytes then, and those from there on up to another aren't marked.
+-- The places up to one are known to have the written bytes then, and those from there up to another aren't marked.
 pub record IsGiven (m : List Bool) (page written : List ℕ) (from to : ℕ) : Type 0 where
   pub ordered : from ≤ to
   pub so_far : Gives m page written from
@@ -181,7 +181,7 @@ given_first m page written = record {
   unmarked = λ k after lt. absurd (omega (arith, lt));
 }
 
--- those that aren't marked have the written bytes just where the pages have the same
+-- those that aren't marked have the written bytes exactly if the pages have the same
 pub given_run :
     (m : List Bool) (page written : List ℕ) (from to : ℕ)
     → IsGiven m page written from to → SameBetween page written from to → Gives m page written to
@@ -199,7 +199,7 @@ run_given m page written from to n given within gives k after lt =
     ap (λ b. cond b (get_or written k 0) (get_or page k 0)) (sym (given.unmarked k after lt))
     ∙ gives k (omega (arith, within, lt))
 
--- the places of one word more, which marks none
+-- the places of one more word without a mark
 pub given_past :
     (m : List Bool) (page written : List ℕ) (from i word : ℕ)
     → word ≡ mask_l (chunk i 64 m) → word ≡ 0 → IsGiven m page written from i → IsGiven m page written from (i + 64)
@@ -218,7 +218,7 @@ given_past m page written from i word is none given = record {
       ];
 }
 
--- the places of one word more, which have the written bytes
+-- the places of one more word, which have the written bytes
 pub given_beyond :
     (m : List Bool) (page written : List ℕ) (from i word : ℕ)
     → word ≡ mask_l (chunk i 64 m) → IsGiven m page written from i → SameBetween page written from i

@@ -1,4 +1,4 @@
--- What has number size * i + j stands in group i, at the place j.
+-- The element of number size * i + j is in group i, at place j.
 use Rattle.std.proofs.Common.{◌≡◌, ℕ, zero, suc, ◌+◌, ◌-◌, ◌*◌, ◌<◌, List, [], ◌∷◌, ◌++◌, length, get_or, set, refl, ap, sym, subst, ◌∙◌, arith, append_assoc, length-append, mul-suc, mul-zero}
 use Rattle.std.proofs.lemmas.List.{get_or_append_left, get_or-append-add, set-append_left, set-append_right, length_push, append-nil}
 use Rattle.page_store.specs.Groups.{joined, AreGroupsOf}
@@ -13,13 +13,13 @@ length-joined size count (group ∷ groups) is =
     let all = length-append group (joined groups) in
     omega arith
 
--- the groups of what stands in them are groups of so many
+-- groups have as many elements as the list that joins them
 pub of_length :
     {X : Type 0} (size count : ℕ) (groups : List (List X)) → AreGroupsOf size count groups
     → AreGroupsOf size (length (joined groups)) groups
 of_length size count groups is = subst (λ k. AreGroupsOf size k groups) (sym (length-joined size count groups is)) is
 
--- A place of a group that there is.
+-- A place of a group that exists.
 pub record IsPlace {X : Type 0} (groups : List (List X)) (i j : ℕ) : Type 0 where
   pub group : i < length groups
   pub place : j < length (get_or groups i [])
@@ -50,7 +50,7 @@ get_or-joined size count (suc i) j (group ∷ groups) d is inside lt =
     ∙ get_or-append-add group (joined groups) (size * i + j) d
     ∙ get_or-joined size (count - size) i j groups d is.2 inside (omega (arith, mul-suc size i))
 
--- another in a place
+-- another element at a place
 pub joined-set :
     {X : Type 0} (size count i j : ℕ) (groups : List (List X)) (x : X)
     → AreGroupsOf size count groups → j < size → size * i + j < count
@@ -67,7 +67,7 @@ joined-set size count (suc i) j (group ∷ groups) x is inside lt =
     ∙ sym (set-append_right group (joined groups) (length group) (size * suc i + j) x refl
     (omega (arith, is.1, mul-suc size i)))
 
--- a group of the same length in the place of one
+-- another group of the same length in the place of one
 pub are_groups-set :
     {X : Type 0} (size count i : ℕ) (groups : List (List X)) (group : List X)
     → AreGroupsOf size count groups → length group ≡ length (get_or groups i [])
@@ -100,7 +100,7 @@ are_groups-push size count (suc i) (group ∷ groups) x any is whole =
           (are_groups-push size (count - size) i groups x any is.2 (omega (arith, mul-suc size i))),
     )
 
--- one more in the last group
+-- one more element in the last group
 pub last_group :
     {X : Type 0} (size count i : ℕ) (groups : List (List X))
     → 0 < size → AreGroupsOf size count groups → size * i < count
@@ -142,7 +142,7 @@ are_groups-extended size count (suc i) j (group ∷ groups) x is some inside sum
           (omega (arith, mul-suc size i))),
     )
 
--- how many stand in the last group, where it isn't full
+-- how many elements the last group has, if it isn't full
 pub length-last :
     {X : Type 0} (size count i j : ℕ) (groups : List (List X))
     → AreGroupsOf size count groups → 0 < j → j < size → count ≡ size * i + j

@@ -15,7 +15,7 @@ use Rattle.std.proofs.lemmas.Simd.{get_or-zip2, pick_l_left, tops_compared, get_
 abbrev pub word_bytes : ℕ → List ℕ
 word_bytes word = digits_l 256 8 (number_l (2 ^ 64) (word ∷ []))
 
--- Which byte has the bit of a place, and which number is that bit alone.
+-- Which byte has the bit of a place, and the number that has only that bit.
 abbrev pub byte_places : List ℕ
 byte_places = map (λ k. k / 8) (range_with_len 0 64)
 

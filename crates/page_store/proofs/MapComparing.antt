@@ -1,4 +1,4 @@
--- Two lists of mapped pages are the same where they are page by page.
+-- Two lists of mapped pages are the same if they are the same page by page.
 use Rattle.std.proofs.Common.{◌≡◌, Bool, List, subst, sym, Decides, arith}
 use Rattle.std.proofs.lemmas.Bool.Decides.{nat_tests}
 use Rattle.std.specs.Cmp.Lexicographic.{pointwise_decides}

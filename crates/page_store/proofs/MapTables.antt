@@ -1,4 +1,4 @@
--- A table of the slots of pages, as it is made.
+-- A table of the slots of pages, while it is made.
 use Rattle.std.proofs.Common.{◌≡◌, ℕ, ◌+◌, ◌/◌, ◌%◌, ◌<◌, ◌≤◌, ◌⊎◌, zero, suc, List, length, get_or, set, replicate, inl, inr, refl, ap, sym, ◌∙◌, arith}
 use Rattle.std.proofs.lemmas.Bool.{cases_eq}
 use Rattle.std.proofs.lemmas.List.{get_or-set_same, get_or-set_other, length-set, length-replicate}
@@ -11,7 +11,7 @@ zeros zero k = refl
 zeros (suc n) zero = refl
 zeros (suc n) (suc k) = zeros n k
 
--- a table that says nothing
+-- a table without entries
 pub table-empty :
     (pages : List Mapped) (starts places : List ℕ) → starts ≡ replicate 256 0 → places ≡ replicate 32768 0
     → IsTable pages starts places 4096
@@ -46,7 +46,7 @@ written xs i k v lt =
       | inr other ↦ inr (other, get_or-set_other xs i k v 0 other)
     ]
 
--- a block more, with the next 4096 places
+-- one more block, with the next 4096 places
 pub table-block :
     (pages : List Mapped) (starts places : List ℕ) (used block : ℕ) → IsTable pages starts places used
     → block < 256 → get_or starts block 0 ≡ 0 → used + 4096 ≤ 32768
@@ -107,7 +107,7 @@ same_place :
     (a b m n : ℕ) → a % 4096 ≡ 0 → b % 4096 ≡ 0 → a + m % 4096 ≡ b + n % 4096 → (a ≡ b) × (m % 4096 ≡ n % 4096)
 same_place a b m n a_whole b_whole same = (omega arith, omega arith)
 
--- the slot of a page more
+-- the slot of one more page
 pub table-place :
     (pages : List Mapped) (starts places : List ℕ) (used number slot : ℕ) → IsTable pages starts places used
     → 0 < get_or starts (number / 4096) 0 → slot < length pages → number_in_slot pages slot ≡ number

@@ -24,7 +24,7 @@ pub flags_of-at : (words : List ℕ) (k : ℕ) (d : Bool) → k < 4096 → get_o
 unfolding flags_of
 flags_of-at words k d lt = flag_at 4096 words k d lt
 
--- the test that code makes of a place
+-- the test of a place in code
 pub tested_at :
     (words : List ℕ) (k : ℕ) → k < 4096 → (bit_and (get_or words (k / 64) 0 / 2 ^ (k % 64)) 1 == 1)
     ≡ get_or (flags_of words) k false
@@ -61,7 +61,7 @@ pub flags_of-none : flags_of (replicate 64 0) ≡ no_marks
 flags_of-none =
     flags_of-zeros (replicate 64 0) (λ j lt. get_or-replicate 64 j 0 0 (omega (arith, length-replicate {A = ℕ} 64 0)))
 
--- a word after one more of its bits was set
+-- a word with one more bit set
 abbrev pub with_bit : List ℕ → ℕ → ℕ
 with_bit words place = bit_or (get_or words (place / 64) 0) (1 * 2 ^ (place % 64) % 2 ^ 64)
 

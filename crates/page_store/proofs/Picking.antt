@@ -42,7 +42,7 @@ merged-at (o ∷ os) (n ∷ ns) [] k same = refl
 merged-at (o ∷ os) (n ∷ ns) (m ∷ ms) zero same = refl
 merged-at (o ∷ os) (n ∷ ns) (m ∷ ms) (suc k) same = merged-at os ns ms k (omega (arith, same))
 
--- where the marks don't reach, it is as before
+-- past the marks, it is as before
 merged-past :
     (o n : List ℕ) (m : List Bool) (i k : ℕ) → length n ≡ length o → i ≤ k
     → get_or (merged o n (take i m)) k 0 ≡ get_or o k 0
@@ -50,14 +50,14 @@ merged-past o n m i k same le =
     merged-at o n (take i m) k same
     ∙ ap (λ b. cond b (get_or n k 0) (get_or o k 0)) (get_or_past (take i m) k false (omega (arith, length-take i m)))
 
--- where they do, it is merged with all of them
+-- within them, it is merged as with all of them
 merged-within :
     (o n : List ℕ) (m : List Bool) (i k : ℕ) → length n ≡ length o → k < i
     → get_or (merged o n (take i m)) k 0 ≡ cond (get_or m k false) (get_or n k 0) (get_or o k 0)
 merged-within o n m i k same lt =
     merged-at o n (take i m) k same ∙ ap (λ b. cond b (get_or n k 0) (get_or o k 0)) (get_or-take i m k false lt)
 
--- A page after the written bytes were put at the 64 places from a place on whose bit is set in a word.
+-- A page after the written bytes were put at those of 64 places whose bit is set in a word.
 pub record HasWord (n : List ℕ) (i word : ℕ) (before after : List ℕ) : Type 0 where
   pub count : length after ≡ length before
   pub each : (k : ℕ) → k < 64
@@ -86,7 +86,7 @@ marked_at m i word k is lt =
     test true = refl
     test false = refl
 
--- The marks of one word more.
+-- The marks of one more word.
 pub merged-word :
     (o n before after : List ℕ) (m : List Bool) (i word : ℕ)
     → before ≡ merged o n (take i m) → length n ≡ length o → word ≡ mask_l (chunk i 64 m)

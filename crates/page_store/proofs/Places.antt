@@ -5,7 +5,7 @@ use Rattle.page_store.specs.Groups.{joined, AreGroupsOf}
 use Rattle.page_store.proofs.Groups.{length-joined, place_at, get_or-joined, joined-set, are_groups-set, joined-push, are_groups-push, last_group, joined-extended, are_groups-extended, length-last}
 
 module _ {X Y : Type 0} (size : ℕ) (any : 0 < size) (f : Y → List X) where
-  -- the table has so many pages
+  -- the table has this number of pages
   pub count_is :
       (count : ℕ) (items : List Y) (now : List X) → AreGroupsOf size count (map f items) → joined (map f items) ≡ now
       → count ≡ length now
@@ -39,7 +39,7 @@ module _ {X Y : Type 0} (size : ℕ) (any : 0 < size) (f : Y → List X) where
       subst (λ group. slot % size < length group)
       (group_read items (slot / size) y (group_of count slot items now is view lt) read) at.place
 
-  -- the page of a slot stands there
+  -- the page of a slot is there
   pub page_at :
       (count slot : ℕ) (items : List Y) (now : List X) (y : Y) (d : X)
       → AreGroupsOf size count (map f items) → joined (map f items) ≡ now → slot < length now
@@ -54,7 +54,7 @@ module _ {X Y : Type 0} (size : ℕ) (any : 0 < size) (f : Y → List X) where
       ∙ ap (λ k. get_or (joined (map f items)) k d) whole
       ∙ ap (λ pages. get_or pages slot d) view
 
-  -- A group z with another page in the slot's place, in the place of the group y.
+  -- A group z with another page in the slot's place, in the place of group y.
   module _ (count slot : ℕ) (items : List Y) (now : List X) (y z : Y) (x : X)
       (is : AreGroupsOf size count (map f items)) (view : joined (map f items) ≡ now) (lt : slot < length now)
       (read : y ≡ get_or items (slot / size) y)
@@ -79,12 +79,12 @@ module _ {X Y : Type 0} (size : ℕ) (any : 0 < size) (f : Y → List X) where
         (are_groups-set size count (slot / size) (map f items) (f z) is
         (ap length made ∙ length-set (f y) (slot % size) x ∙ ap length (sym read_is)))
 
-  -- The groups of a table that has one page more than before.
+  -- The groups of a table that has one more page than before.
   pub record HasOneMore (count : ℕ) (now : List X) (x : X) (items : List Y) : Type 0 where
     pub grouped : AreGroupsOf size (count + 1) (map f items)
     pub pages : joined (map f items) ≡ now ++ x ∷ []
 
-  -- a group z of one page, behind full groups
+  -- a group z of one page, after full groups
   pub begun :
       (count : ℕ) (items : List Y) (now : List X) (z : Y) (x : X)
       → AreGroupsOf size count (map f items) → joined (map f items) ≡ now → count % size ≡ 0 → f z ≡ x ∷ []
@@ -98,14 +98,14 @@ module _ {X Y : Type 0} (size : ℕ) (any : 0 < size) (f : Y → List X) where
         ∙ ap (λ group. now ++ group) made;
   }
 
-  -- the last group, where it isn't full
+  -- the last group, if it isn't full
   pub last_of :
       (count : ℕ) (items : List Y) → AreGroupsOf size count (map f items) → 0 < count % size
       → count / size < length items
   last_of count items is some =
       omega (arith, last_group size count (count / size) (map f items) any is (omega arith), length-map items f)
 
-  -- how much that group has
+  -- how many pages that group has
   pub length_of_last :
       (count : ℕ) (items : List Y) (y : Y) → AreGroupsOf size count (map f items) → 0 < count % size
       → y ≡ get_or items (count / size) y

@@ -2,12 +2,12 @@
 use Rattle.std.proofs.Common.{◌≡◌, List, length, map, ap, sym, subst, ◌∙◌}
 use Rattle.page_store.specs.Groups.{joined, AreGroupsOf}
 
--- These stand in groups of eight.
+-- These lists are groups of eight.
 pub record AreGrouped {X Y : Type 0} (f : Y → List X) (now : List X) (items : List Y) : Type 0 where
   pub grouped : AreGroupsOf 8 (length now) (map f items)
   pub pages : joined (map f items) ≡ now
 
--- groups that are the same stand for the same
+-- groups that are the same as grouped ones are groups of the same list
 pub shared_groups :
     {X Y : Type 0} (f : Y → List X) (own items : List Y) (now : List X)
     → map f items ≡ map f own → AreGroupsOf 8 (length (joined (map f own))) (map f own) → joined (map f own) ≡ now

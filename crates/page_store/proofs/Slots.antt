@@ -1,4 +1,4 @@
--- Where the page of an address stands in a list of ascending pages.
+-- The place of the page of an address in a list of ascending pages.
 use Rattle.std.proofs.Common.{◌≡◌, ℕ, ◌/◌, ◌<◌, ◌≤◌, zero, suc, true, false, ◌==◌, cond, nat_lt, List, [], ◌∷◌, length, get_or, refl, ap, arith}
 use Rattle.std.proofs.lemmas.Bool.{and_parts}
 use Rattle.std.proofs.lemmas.Bool.Decides.{nat_tests}
@@ -8,7 +8,7 @@ use Rattle.memory_spec.specs.Pages.{Mapped, slot_of, ascends_above, unmapped}
 abbrev pub number_in_slot : List Mapped → ℕ → ℕ
 number_in_slot pages k = (get_or pages k unmapped).number
 
--- the slot turns on the page's number alone
+-- the slot depends on the page's number alone
 pub slot_of-page : (pages : List Mapped) (a b : ℕ) → a / 4096 ≡ b / 4096 → slot_of pages a ≡ slot_of pages b
 slot_of-page [] a b same = refl
 slot_of-page (p ∷ ps) a b same = rw (same, slot_of-page ps a b same) refl
@@ -64,7 +64,7 @@ ascending low (p ∷ ps) (suc i) (suc j) asc lt within =
     ascending p.number ps i j (and_parts (nat_lt low p.number) (ascends_above p.number ps) asc).1 (omega arith)
     (omega arith)
 
--- the first page that has an address's number stands no later than another one
+-- the first page that has an address's number comes no later than another one
 first :
     (pages : List Mapped) (k address : ℕ) → number_in_slot pages k ≡ address / 4096 → k < length pages
     → slot_of pages address ≤ k
@@ -80,7 +80,7 @@ first (p ∷ ps) (suc k) address is lt =
 same : (pages : List Mapped) (i j : ℕ) → i ≡ j → number_in_slot pages i ≡ number_in_slot pages j
 same pages i j is = ap (number_in_slot pages) is
 
--- two pages with the numbers in this order stand in this order
+-- two pages with the numbers in this order are in this order
 ordered :
     (pages : List Mapped) (i j : ℕ) → ascends_above 0 pages ≡ true → i < length pages
     → number_in_slot pages i < number_in_slot pages j

@@ -12,7 +12,7 @@ use Rattle.std.proofs.lemmas.Simd.{length-chunk, get_or-chunk, bit_mask_l}
 abbrev pub word_marks : List Bool → ℕ → List Bool
 word_marks m number = take 64 (drop (64 * number) m)
 
--- The marks up to an end that are left from a place on.
+-- The marks from a place up to an end.
 abbrev pub marks_left : List Bool → ℕ → ℕ → List Bool
 marks_left m end place = take (end - place) (drop place m)
 
@@ -49,7 +49,7 @@ mark_at : (m : List Bool) (end place i : ℕ) → place + i < end
     → slice_index_or (marks_left m end place) i false ≡ slice_index_or m (place + i) false
 mark_at m end place i lt = get_or-chunk place (end - place) m i false (omega arith)
 
--- A number that has the marks which are left, and how many places its lowest mark is from the first.
+-- A number that has the remaining marks, and how many places after the first its lowest mark is.
 pub record IsLeft (m : List Bool) (end place left t : ℕ) : Type 0 where
   pub marks : left ≡ mask_l (marks_left m end place)
   pub some : 0 < left
@@ -67,7 +67,7 @@ lowest m end place left t is =
           ∙ found.2 i (omega (arith, is.lowest, lt)))),
     )
 
--- The lowest mark that is left comes before the end.
+-- The lowest remaining mark comes before the end.
 pub mark_within : (m : List Bool) (end place left t : ℕ) → IsLeft m end place left t → end ≤ length m → place ≤ end
     → place + t < end
 mark_within m end place left t is le from =
@@ -90,7 +90,7 @@ none_before m end place left t is inside j from below =
     ∙ sym (mark_at m end place (j - place) (omega (arith, inside)))
     ∙ (lowest m end place left t is).1 (j - place) (omega arith)
 
--- What is left behind it.
+-- The marks that remain after it.
 pub marks_behind : (m : List Bool) (end place left t : ℕ) → IsLeft m end place left t → place + t < end
     → left / 2 ^ t / 2 ≡ mask_l (marks_left m end (place + t + 1))
 marks_behind m end place left t is inside =

@@ -1,4 +1,4 @@
--- The bytes at the marked places are those that the stores leave.
+-- The bytes at the marked places are those after the stores.
 use Rattle.std.proofs.Common.{◌≡◌, List, ap, ◌∙◌}
 use Rattle.memory_spec.specs.Pages.{Memory}
 use Rattle.thunk_spec.specs.Delta.{PageDelta, masked}

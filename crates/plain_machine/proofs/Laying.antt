@@ -1,4 +1,4 @@
--- Laying stores byte by byte.
+-- Stores are applied byte by byte.
 use Rattle.std.proofs.Common.{◌≡◌, ◌≤◌, List, [], ◌∷◌, ◌++◌, length, refl, ap, ◌∙◌}
 use Rattle.std.proofs.lemmas.List.{set_past, length-set}
 use Rattle.memory_spec.specs.Pages.{Mapped, Memory, slot_of}
@@ -45,7 +45,7 @@ append-nil : (xs : List StoredByte) → xs ++ [] ≡ xs
 append-nil [] = refl
 append-nil (x ∷ xs) = ap (λ rest. x ∷ rest) (append-nil xs)
 
--- one store more has its bytes after the others'
+-- one more store has its bytes after the others'
 pub bytes_of-more :
     (stores : List StoredNumber) (s : StoredNumber)
     → bytes_of (stores ++ s ∷ []) ≡ bytes_of stores ++ bytes_stored s.address s.size s.value

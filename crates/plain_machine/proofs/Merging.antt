@@ -1,4 +1,4 @@
--- What stores leave on a memory follows from what they leave on another one of the same map, and from their places.
+-- Stores to a memory follow from the same stores to another one of the same map, and from their places.
 use Rattle.std.proofs.Common.{◌≡◌, ℕ, zero, suc, ◌%◌, Bool, true, false, cond, List, [], ◌∷◌, ◌++◌, length, set, replicate, refl, ap, sym, ◌∙◌, arith}
 use Rattle.std.specs.List.{AllByRecursion}
 use Rattle.std.proofs.lemmas.List.Elements.{recursion_from_All}
@@ -70,7 +70,7 @@ merged-byte map masks memory other s =
     (merged_page-set (mask_of masks k) (page_of memory k) (page_of other k) o s.byte
     ∙ ap (λ (page : List ℕ). set page o s.byte) (sym (merged-page_of masks memory other k)))
 
--- stores are made on a memory by making and marking them on the one above it
+-- storing to a merged memory is storing to the memory that is merged into it, and marking
 pub merged-with_stores :
     (map : List Mapped) (stores : List StoredByte) (masks : Masks) (memory other : Memory)
     → merged (marked map masks stores) (with_stores map memory stores) other ≡ with_stores map (merged masks memory other) stores
@@ -107,7 +107,7 @@ merged-none-each (m ∷ map) (x ∷ memory) (y ∷ other) a b p q =
     ∙ ap (λ rest. y ∷ rest)
     (merged-none-each map memory other (omega (arith, a)) (omega (arith, b)) p.1 q.1)
 
--- where nothing is marked, the other memory stays
+-- if nothing is marked, the other memory stays
 pub merged-none :
     (map : List Mapped) (memory other : Memory) → IsMemory map memory → IsMemory map other
     → merged (on_each no_marks map) memory other ≡ other
@@ -115,7 +115,7 @@ merged-none map memory other a b =
     merged-none-each map memory other a.count b.count
     (recursion_from_All IsPage memory a.pages) (recursion_from_All IsPage other b.pages)
 
--- what stores leave on a memory, from what they leave on another and their marks
+-- a memory after stores, from another memory after them and from their marks
 pub with_stores-merged :
     (map : List Mapped) (stores : List StoredByte) (memory other : Memory) → IsMemory map memory → IsMemory map other
     → merged (marked map (on_each no_marks map) stores) (with_stores map memory stores) other ≡ with_stores map other stores
@@ -123,7 +123,7 @@ with_stores-merged map stores memory other a b =
     merged-with_stores map stores (on_each no_marks map) memory other
     ∙ ap (λ (m : Memory). with_stores map m stores) (merged-none map memory other a b)
 
--- one store more keeps what holds of the stores so far
+-- one more store keeps what holds of the stores so far
 pub kept-more :
     (map : List Mapped) (stores : List StoredNumber) (s : StoredNumber) (memory shared : Memory)
     → with_stores map shared (bytes_of stores) ≡ merged (marked map (on_each no_marks map) (bytes_of stores)) memory shared
@@ -151,7 +151,7 @@ marked-more map stores s =
     ap (marked map (on_each no_marks map)) (bytes_of-more stores s)
     ∙ marked-append map (on_each no_marks map) (bytes_of stores) (bytes_stored s.address s.size s.value)
 
--- with no store yet, what holds of the stores holds
+-- without a store, it holds
 pub kept-none :
     (map : List Mapped) (memory : Memory) (stores : List StoredNumber) (shared : Memory)
     → IsMemory map memory → stores ≡ [] → IsMemory map shared

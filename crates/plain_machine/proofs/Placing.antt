@@ -10,7 +10,7 @@ use Rattle.plain_machine.specs.Stored.{byte_of, with_number}
 use Rattle.plain_machine.proofs.Fetching.{slot_of-same}
 use Rattle.plain_machine.proofs.Laying.{unmapped_byte}
 
--- one byte more into a page
+-- one more byte into a page
 byte_more :
     (map : List Mapped) (m : Memory) (p : List ℕ) (s o a v : ℕ)
     → slot_of map a ≡ s → a % 4096 ≡ o → s < length m
@@ -81,7 +81,7 @@ byte_nowhere map m address value k past same =
     let slot = slot_of-same map (address + k) address same in
     unmapped_byte map m (byte_stored address value k) (omega (arith, slot, past))
 
--- and so doesn't the store
+-- and neither does the store
 pub with_stores_nowhere :
     (map : List Mapped) (m : Memory) (address : ℕ) (size : Size) (value : ℕ)
     → address % byte_count size ≡ 0 → length m ≤ slot_of map address

@@ -1,4 +1,4 @@
--- One step more of a schedule.
+-- One more step of a schedule.
 use Rattle.std.proofs.Common.{◌≡◌, ℕ, zero, suc, ◌+◌, ◌<◌, Bool, true, false, ◌&&◌, List, [], ◌∷◌, length, take, get_or, refl, ap, ◌∙◌, arith}
 use Rattle.machine_spec.specs.Machine.{Machine}
 use Rattle.machine_spec.specs.declared.states.Asked.{Asked}
@@ -48,13 +48,13 @@ turns-suc m (x ∷ xs) zero below = omega arith
 turns-suc m (x ∷ xs) (suc i) below =
     let more = turns-suc (step m x) xs i (omega (arith, below)) in omega (arith, more)
 
--- the machine after one step more
+-- the machine after one more step
 pub scratch-more :
     (m : Machine) (xs : List ℕ) (i : ℕ) → i < length xs
     → scratch_from m (take (i + 1) xs) ≡ step (scratch_from m (take i xs)) (get_or xs i 0)
 scratch-more m xs i below = ap (λ (n : ℕ). scratch_from m (take n xs)) (plus i) ∙ scratch-suc m xs i below
 
--- it is permitted where the one before was and the step may be made
+-- the schedule is permitted if the one before was and the step may be made
 pub permitted-more :
     (m : Machine) (xs : List ℕ) (i : ℕ) → i < length xs → is_permitted_from m (take i xs) ≡ true
     → can_step (scratch_from m (take i xs)) (get_or xs i 0) ≡ true
@@ -62,19 +62,19 @@ pub permitted-more :
 permitted-more m xs i below before may =
     ap (λ (n : ℕ). is_permitted_from m (take n xs)) (plus i) ∙ permitted-suc m xs i below before may
 
--- and it has the turns of its thunk more
+-- and it has the turns of its thunk in addition
 pub turns-more :
     (m : Machine) (xs : List ℕ) (i : ℕ) → i < length xs
     → turns_from m (take (i + 1) xs)
     ≡ turns_from m (take i xs) + (thunk_of (scratch_from m (take i xs)) (get_or xs i 0)).count
 turns-more m xs i below = ap (λ (n : ℕ). turns_from m (take n xs)) (plus i) ∙ turns-suc m xs i below
 
--- what is asked makes no step
+-- performing a request makes no step
 done-steps : (m : Machine) (t : ℕ) (a : Asked) → (done_as_asked m t a).steps ≡ m.steps
 done-steps m t (Asks call) = refl
 done-steps m t (Stops e) = refl
 
--- a step is one step more
+-- a step is one more step
 pub step-steps : (m : Machine) (t : ℕ) → (step m t).steps ≡ suc m.steps
 unfolding step finished
 step-steps m t =

@@ -3,7 +3,7 @@ use Rattle.std.proofs.Common.{◌≡◌, ◌<◌, ℕ, List, [], length, map, ge
 use Rattle.std.proofs.lemmas.List.{get_or-map, map-set, length-map}
 
 module _ {X Y : Type 0} (f : Y → List X) where
-  -- the page in a slot is the value of what the list has there
+  -- the page in a slot is the value at its place in the list
   pub page_at :
       (items : List Y) (now : List (List X)) (slot : ℕ) (y : Y) → map f items ≡ now → slot < length now
       → y ≡ get_or items slot y
@@ -14,7 +14,7 @@ module _ {X Y : Type 0} (f : Y → List X) where
       ∙ sym (get_or-map f items slot y [] count)
       ∙ ap (λ pages. get_or pages slot []) view
 
-  -- and another is there after it is put there
+  -- and another page is there after it was put there
   pub page_set :
       (items : List Y) (now : List (List X)) (slot : ℕ) (z : Y) (page : List X) → map f items ≡ now → f z ≡ page
       → map f (set items slot z) ≡ set now slot page

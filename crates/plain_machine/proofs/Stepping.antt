@@ -15,7 +15,7 @@ use Rattle.machine_calls.specs.Doing.{harts_after, objects_after, own_end, effec
 use Rattle.machine_calls.proofs.Finishing.{finished-parts}
 use Rattle.plain_machine.specs.Making.{thunk_of, IsMade}
 
--- the machine's parts, where a thunk in code was run on the thread's view, each as the code makes it, are the machine
+-- the machine's parts, if a thunk in code was run on the thread's view, each as the code makes it, are the machine
 -- after a step
 pub stepped :
     (m : Machine) (t : ℕ) (d : ThunkResult) (memory : Memory) (before done : List Hart) (objects : Objects) (output : List ℕ)
@@ -46,7 +46,7 @@ stepped m t d memory before done objects output ending a whole is is_memory is_b
     is_asked is_output (omega arith) is_done is_objects is_ending
     ∙ rw (is_memory ∙ is.applies m.memory whole, is.regs, is.end, is.put) refl
 
--- and what is told of it
+-- and what is reported of it
 pub reported :
     (m : Machine) (t : ℕ) (d : ThunkResult) (made : StepResult)
     → IsDone m.frame (hart_of m t).view (hart_of m t).regs d

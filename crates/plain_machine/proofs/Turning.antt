@@ -1,4 +1,4 @@
--- Turns made one after the other leave what the thunk of them all leaves.
+-- The result of turns made one after the other is that of the thunk of them all.
 use Rattle.std.proofs.Common.{◌≡◌, ℕ, ◌+◌, ◌-◌, ◌<◌, suc, List, [], ap, sym, subst, ◌∙◌, refl, arith, add_assoc}
 use Rattle.isa_spec.specs.declared.Cause.{Cause}
 use Rattle.isa_spec.specs.Registers.{Registers}
@@ -20,7 +20,7 @@ use Rattle.plain_machine.specs.Turning.{TurnsOutcome, left_by, left_after, count
 use Rattle.plain_machine.proofs.Laying.{with_stores-append, marked-append}
 use Rattle.plain_machine.proofs.Merging.{with_stores-merged}
 
--- what a turn left, and then the rest of its thunk
+-- the result of a turn, and then of the rest of its thunk
 left_by-after_turn :
     (map : List Mapped) (memory : Memory) (stored : Masks) (t : Turn) (rest : Thunk)
     → left_by map memory stored (after_turn t rest)
@@ -53,7 +53,7 @@ followed-trap o cause map memory t rest e = rw e refl
 counted-twice : (a b : ℕ) (l : TurnsOutcome) → counted a (counted b l) ≡ counted (a + b) l
 counted-twice a b l = ap (λ (n : ℕ). record l { count = n }) (sym (add_assoc a b l.count))
 
--- one turn more was made, and its thunk goes on
+-- one more turn was made, and its thunk continues
 pub turns-next :
     (fuel count : ℕ) (w after : Workspace) (r registers : Registers) (o : Outcome)
     → count < fuel → Makes (turn w.map w.memory r) w o registers after → o ≡ outcome.Next
@@ -115,7 +115,7 @@ turns-trap fuel count w after r registers o cause lt made trap =
     (followed-trap (turn w.map w.memory r).outcome cause w.map w.memory (turn w.map w.memory r)
     (turns w.map (fuel - (count + 1))) (sym made.outcome_is ∙ trap))
 
--- turns on a copy of a view, with the bytes of the put, are the thunk on this view
+-- the result of turns on a copy of a view, with the bytes of the put, is that of the thunk on this view
 pub is-done :
     (f : Frame) (view : Memory) (start : Registers) (work after : Workspace) (d : ThunkResult)
     → IsMemory f.map view

@@ -10,7 +10,7 @@ use Rattle.memory_spec.specs.Workspace.{Masks, mask_of, with_mark, marked}
 use Rattle.page_store.proofs.Slots.{slot_of-page}
 use Rattle.priv_space.specs.Written.{byte_of, with_number, with_marks}
 
--- One is put at an address, into the page that has it.
+-- One element is put at an address, into the page that has it.
 abbrev put : {A : Type 0} → List Mapped → List (List A) → ℕ → A → List (List A)
 put map m address a = set m (slot_of map address) (set (get_or m (slot_of map address) []) (address % 4096) a)
 

@@ -16,8 +16,8 @@ use Rattle.priv_space.specs.Parts.{read_part, delta_part}
 use Rattle.priv_space.specs.Held.{IsNext}
 use Rattle.priv_space.proofs.Views.{on_view-set}
 
--- What is left from each place on is its part and what is left from the next one on; the free places have none, and
--- past the last place nothing is left.
+-- The rest from each place on is its part and the rest from the next one on; free places have no part, and past the
+-- last place there is no rest.
 pub record Collects {A : Type 0} (IsFree : ℕ → Type 0) (count : ℕ) (part rest : ℕ → List A) : Type 0 where
   pub next : (i : ℕ) → rest i ≡ part i ++ rest (suc i)
   pub none : (i : ℕ) → IsFree i → part i ≡ []
@@ -33,7 +33,7 @@ skipped {rest = rest} c i (suc n) free =
     ∙ skipped c (suc i) n (λ k from below. free k (omega arith) (omega arith))
     ∙ ap rest (let more : suc i + n ≡ i + suc n = omega arith in more)
 
--- what was collected and what is left stay all of it, one place that isn't free further
+-- what was collected and the rest stay the whole, up to the next place that isn't free
 pub collected_next :
     {A : Type 0} {IsFree : ℕ → Type 0} {part rest : ℕ → List A} {from count slot : ℕ} (items : List A)
     {items' all : List A} → Collects IsFree count part rest → items ++ rest from ≡ all
@@ -50,7 +50,7 @@ collected_next {part = part} {rest = rest} {from} {slot = slot} items c before f
     ∙ ap (λ k. part slot ++ rest k) next))
     ∙ before
 
--- where the places that are left are free, all was collected
+-- if the remaining places are free, all was collected
 pub collected_all :
     {A : Type 0} {IsFree : ℕ → Type 0} {part rest : ℕ → List A} {from count : ℕ} (items : List A) {all : List A}
     → Collects IsFree count part rest → items ++ rest from ≡ all → ((k : ℕ) → from ≤ k → IsFree k) → items ≡ all
@@ -156,7 +156,7 @@ collects-deltas view slots same = record {
       (drop_all i (map slot_marks slots) (omega (arith, length-map slots slot_marks)));
 }
 
--- what is left behind a slot turns on none up to it
+-- the stored bytes after a slot don't depend on the slots up to it
 pub deltas_left-set :
     (view : Memory) (slots : List Slot) (i n : ℕ) (s : Slot) → i < n
     → deltas_left view (set slots i s) n ≡ deltas_left view slots n
@@ -183,7 +183,7 @@ delta_from-ascend low k (m ∷ ms) (p ∷ ps) le =
       | false ↦ delta_from-ascend low (suc k) ms ps (omega arith)
     ]
 
--- what is chosen of a merged page is what was merged
+-- the bytes chosen of a merged page are those that were merged
 chosen-merged :
     (o n : List ℕ) (m : List Bool) → length n ≡ length o → length m ≡ length o
     → chosen m (merged o n m) ≡ chosen m n
@@ -206,7 +206,7 @@ delta_from-merged k (o ∷ os) (n ∷ ns) [] h = absurd h
 delta_from-merged k (o ∷ os) (n ∷ ns) (m ∷ ms) h =
     rw (chosen-merged o n m h.0 h.1, delta_from-merged (suc k) os ns ms h.2) refl
 
--- what stores leave on a view, at the places that they wrote, is what they leave on any other
+-- the stored bytes that are collected from a view after stores are those of the stores
 pub delta_from-with_stores :
     (map : List Mapped) (view : Memory) (stores : List StoredByte)
     → IsMemory map view

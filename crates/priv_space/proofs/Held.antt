@@ -16,7 +16,7 @@ use Rattle.priv_space.proofs.Views.{map-replicate}
 pub length-all_held : (places : List ℕ) (held : List Slot) → length (all_held places held) ≡ length places
 length-all_held places held = length-map places (held_at held)
 
--- a slot is what its place holds
+-- a slot is what is held at its place
 get_or-all_held :
     (places : List ℕ) (held : List Slot) (i : ℕ) → i < length places
     → get_or (all_held places held) i untouched ≡ held_at held (get_or places i 0)
@@ -32,7 +32,7 @@ untouched-held places held i h free =
       | inr le ↦ get_or_past (all_held places held) i untouched (omega (arith, length-all_held places held))
     ]
 
--- what is found where places are free is found where slots are
+-- what is found among places is found among slots
 pub next-free :
     {IsFree IsClear : ℕ → Type 0} (from count count' : ℕ) (found : Option ℕ) → ((k : ℕ) → IsFree k → IsClear k)
     → count ≡ count' → FindsNext IsFree from count found → FindsNext IsClear from count' found
@@ -60,7 +60,7 @@ at_set xs i j v d lt =
       | inr other ↦ inr (other, get_or-set_other xs i j v d other)
     ]
 
--- what a place of one's own holds changes one slot; that of place 0 stays untouched
+-- a change of what is held at an own place changes one slot; place 0 stays untouched
 pub all_held-set :
     {listed : List ℕ} (places : List ℕ) (held : List Slot) (i k : ℕ) (s : Slot) → IsHeld listed places held → i < length places
     → k ≡ get_or places i 0 → (k ≡ 0 → s ≡ untouched)
@@ -107,7 +107,7 @@ is_held-set places held k s h under none = record {
   owned = λ place some below. h.owned place some (omega (arith, below, length-set held k s));
 }
 
--- a slot that gets the next place, where nothing was touched, is as before
+-- if an untouched slot gets the next place, it is as before
 pub all_held-more :
     {listed : List ℕ} (places : List ℕ) (held : List Slot) (i : ℕ) → IsHeld listed places held → i < length places → get_or places i 0 ≡ 0
     → all_held (set places i (length held)) (held ++ untouched ∷ []) ≡ all_held places held
@@ -131,7 +131,7 @@ all_held-more places held i h lt free =
           ∙ sym was
     ])
 
--- so the places and their list are still such ones
+-- so the places and their list keep their invariant
 pub is_held-more :
     (listed places : List ℕ) (held : List Slot) (i : ℕ) → IsHeld listed places held → i < length places
     → get_or places i 0 ≡ 0
@@ -188,7 +188,7 @@ listed-slot listed places held slot h some below =
     let own = h.owned (get_or places slot 0) some (h.inside slot) below in
     h.apart (get_or listed (get_or places slot 0) 0) slot own (omega (arith, own))
 
--- and what is listed is one of the slots
+-- and a listed slot is one of the slots
 listed-within :
     (listed places : List ℕ) (held : List Slot) (place : ℕ) → IsHeld listed places held → 0 < place
     → place < length held → place < LISTED → get_or listed place 0 < length places
@@ -198,7 +198,7 @@ listed-within listed places held place h some below first =
       | inr le ↦ absurd (omega (arith, h.owned place some below first, get_or_past places (get_or listed place 0) 0 le))
     ]
 
--- the least listed slot is the next one that has a place, where all that are held are listed
+-- the least listed slot is the next one that has a place, if all places are listed
 pub next-listed :
     (listed places : List ℕ) (held : List Slot) (from count : ℕ) (found : Option ℕ) → IsHeld listed places held
     → count ≡ length held → count ≤ LISTED → length places < 2 ^ 64 → FindsLeast listed count from found
@@ -235,14 +235,14 @@ next-listed listed places held from count None h is all fits none = λ k above.
       | inr low ↦ omega arith
     ]
 
--- One slot is put in its place after another, and no other slot changes.
+-- One slot is replaced by another, and no other slot changes.
 pub record IsPut (slots : List Slot) (listed places : List ℕ) (held : List Slot) (i : ℕ) (old new : Slot) : Type 0 where
   pub each : IsHeld listed places held
   pub all : all_held places held ≡ set slots i new
   pub within : i < length slots
   pub was : old ≡ get_or slots i untouched
 
--- so it is where what a place holds changes; only what wasn't touched is put in place 0
+-- so it is if what is held at a place changes; place 0 only gets untouched slots
 pub put-slot :
     {slots held : List Slot} {listed places places' : List ℕ} {i k : ℕ} {x : Slot} (s : Slot)
     → all_held places held ≡ slots → IsHeld listed places held → i < length slots → k ≡ get_or places i 0
@@ -267,7 +267,7 @@ put-slot {slots} {held} {listed} {places} {places'} {i} {k} {x} s all each withi
           ∙ ap (λ xs. get_or xs i untouched) all;
     }
 
--- and in the place that a slot got to be touched
+-- and so it is at the place that a slot got to be touched
 pub put-touched :
     {X : Type 0} {slots old held : List Slot} {listed before places : List ℕ} {i k : ℕ} {x : Slot} (s : Slot) (v : Vec ℕ X)
     → all_held v.items old ≡ slots → before ≡ v.items → PlacesSlot i listed before places old held (Ok k)
@@ -277,13 +277,13 @@ put-touched {old = old} {places = places} s v was seen placed within x_is fits =
     put-slot s (placed.same ∙ ap (λ p. all_held p old) seen ∙ was) placed.each within placed.place.0 x_is
     (with_items_is v places fits) (λ free. absurd (omega (arith, placed.place.1)))
 
--- what was put has its share of the view's page
+-- the slot before the change shares the view's page, as each slot does
 pub shared-put :
     {slots held : List Slot} {listed places : List ℕ} {i : ℕ} {x s : Slot} (view : Memory)
     → IsPut slots listed places held i x s → IsOver view slots → SharesPage (page_of view i) x
 shared-put {i = i} view p over = rw p.was (over.shared i)
 
--- so its change is that change of the slot
+-- so a change of what is held is the same change of the slot
 pub change-put :
     (Change : Slot → Slot → Type 0) {slots held : List Slot} {listed places : List ℕ} {i : ℕ} {x s : Slot}
     → IsPut slots listed places held i x s → Change x s → OnSlot i Change slots (all_held places held)

@@ -1,4 +1,4 @@
--- What a space means, after each of its operations.
+-- What a space means after each of its operations.
 use Rattle.std.proofs.Common.{◌≡◌, ℕ, ◌%◌, ◌<◌, Bool, true, false, IsTrue, IsFalse, cond, List, [], ◌∷◌, length, map, get_or, set, replicate, refl, ap, sym, ◌∙◌, arith, Result, Ok, Err, MatchResult, Some, None}
 use Rattle.std.proofs.lemmas.List.{map-set, get_or-map, length-map, length-set, length-replicate, set-get_or}
 use Rattle.std.proofs.Math.Seq.{map-set_same}
@@ -140,7 +140,7 @@ stored_space pages {view} {slots} {after} address size value {i} {s} fits at ali
     let flags = map-set_same slot_taken slots i s untouched stores.taken in
     rw is (cc)
 
--- what is found at an address is the number in its slot's page, where the page has the right
+-- the number at an address is the one in its slot's page, if the page has the right
 pub found_space :
     (right : ℕ) (pages : List Mapped) {view : Memory} {slots : List Slot} (address : ℕ) (size : Size) {number i : ℕ}
     → Fits pages view slots → IsAt pages address i → allows right (permission_at pages address) ≡ true
@@ -193,7 +193,7 @@ stored_again pages {view} {slots} address size value {i} fits at aligned done = 
   stored_space pages address size value fits at aligned done.others (done.change.stores (page_of view i)),
 )
 
--- so the slots fit after a call that says whether it changed one
+-- so the slots fit after a call that reports whether it changed one
 pub fits-if :
     (may : ℕ → Bool) {Change : Slot → Slot → Type 0} {pages : List Mapped} {view : Memory} {slots after : List Slot}
     {i : ℕ} (done : Bool) → Fits pages view slots → i < length pages
@@ -207,7 +207,7 @@ fits-if may {view = view} {i = i} true fits lt changes stays keeps =
     fits-after may fits lt done.others kept.0 kept.1
 fits-if may false fits lt changes stays keeps = rw (stays refl) fits
 
--- a slot's page that was entered is the page of an address in it, and has the view's bytes
+-- entering a slot's page is entering the page of an address in it, which has the view's bytes
 pub entered_space :
     (pages : List Mapped) {view : Memory} {slots after : List Slot} (address : ℕ) {i : ℕ}
     → Fits pages view slots → IsAt pages address i

@@ -1,4 +1,4 @@
--- What slots make of a view's pages, after one of them changed.
+-- The pages that slots make of a view, after one of them changed.
 use Rattle.std.proofs.Common.{◌≡◌, ℕ, ◌<◌, zero, suc, List, [], ◌∷◌, length, map, get_or, set, replicate, inl, inr, refl, ap, sym, subst, ◌∙◌, arith}
 use Rattle.std.proofs.lemmas.Bool.{cases_eq}
 use Rattle.std.proofs.lemmas.List.{set-get_or, get_or-set_same, get_or-set_other}
@@ -29,7 +29,7 @@ length-on_view f [] slots h = refl
 length-on_view f (p ∷ ps) [] h = absurd (omega arith)
 length-on_view f (p ∷ ps) (q ∷ qs) h = ap suc (length-on_view f ps qs (omega arith))
 
--- a slot that makes as much of its page as before changes nothing
+-- a slot that makes the same of its page as before changes nothing
 pub on_view-set_same :
     (f : List ℕ → Slot → List ℕ) (view : Memory) (slots : List Slot) (i : ℕ) (s d : Slot)
     → i < length view → i < length slots → f (page_of view i) s ≡ f (page_of view i) (get_or slots i d)
@@ -49,7 +49,7 @@ unfolding slot_bytes untouched
 bytes-untouched [] = refl
 bytes-untouched (page ∷ view) = ap (λ rest. page ∷ rest) (bytes-untouched view)
 
--- what holds of each slot in its place holds after one changed for which it holds
+-- what holds of each slot at its place still holds after one was set to a slot of which it holds
 pub each-set :
     (Holds : ℕ → Slot → Type 0) (slots : List Slot) (i : ℕ) (s : Slot) → i < length slots
     → ((k : ℕ) → Holds k (get_or slots k untouched)) → Holds i s
@@ -62,7 +62,7 @@ each-set Holds slots i s lt each here k =
       | inr other ↦ subst (Holds k) (sym (get_or-set_other slots i k s untouched other)) (each k)
     ]
 
--- what holds of one that wasn't touched in each place holds of all that weren't
+-- what holds of an untouched slot at each place holds of a list of them
 pub each-untouched :
     (Holds : ℕ → Slot → Type 0) (n : ℕ) → ((k : ℕ) → Holds k untouched)
     → (k : ℕ) → Holds k (get_or (replicate n untouched) k untouched)

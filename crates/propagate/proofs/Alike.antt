@@ -1,4 +1,4 @@
--- A round that goes on as its history did, but for some pages.
+-- A round that continues as its history did, but for some pages.
 use Rattle.std.proofs.Common.{◌≡◌, ◌<◌, ◌+◌, ℕ, zero, suc, Bool, true, false, ◌&&◌, ◌||◌, not, eqb, List, [], ◌∷◌, ◌++◌, length, map, set, take, replicate, cond, Option, Vec, Some, None, is_none, is_some, refl, ap, ap₂, sym, ◌∙◌, subst, inl, inr, arith}
 use Rattle.std.proofs.lemmas.Bool.{and_parts, cases_eq, cases_lt, eq-eqb, eqb-true}
 use Rattle.std.proofs.lemmas.Bool.Decides.{nat_tests}
@@ -57,7 +57,7 @@ pub marked-length : (marks : List Bool) (slots : List ℕ) → length (marked ma
 marked-length marks [] = refl
 marked-length marks (s ∷ slots) = marked-length (set marks s true) slots ∙ length-set marks s true
 
--- what isn't marked now wasn't before
+-- a slot that isn't marked now wasn't before
 set-before : (marks : List Bool) (s p : ℕ) → is_marked (set marks s true) p ≡ false → is_marked marks p ≡ false
 set-before [] s p clean = clean
 set-before (b ∷ marks) zero zero clean = cc
@@ -91,7 +91,7 @@ marked-slots marks (s ∷ slots) p below clean =
 
 -- ---- one step on both sides
 
--- records of one thread that end with one call ask for the same
+-- records of one thread that end with the same call have the same request
 pub same_ask :
     (old new : Record) → old.kept.end ≡ thunk_end.Call → new.kept.end ≡ thunk_end.Call
     → call_at new.kept.finish ≡ call_at old.kept.finish → is_some (call_at old.kept.finish) ≡ true
@@ -238,7 +238,7 @@ as-marked-same w v (Some marks) was past machine records = λ h is.
           (old.like (subst (λ (rs : List Record). is_none (machine_at h (length rs)).ending ≡ true) records none)));
     }
 
--- The parts of a round that what its marks say speaks of are another's.
+-- A round with the same parts, as far as its marks depend on them.
 pub record AreSame (w v : RoundState) : Type 0 where
   pub setup : v.setup ≡ w.setup
   pub past : v.past ≡ w.past
@@ -282,7 +282,7 @@ whole-then h k valid coherent =
     whole-at (first h.setup) h.records k (IsWhole-first h.setup valid)
     (and_parts (can_apply_from (first h.setup) h.records) _ coherent).0
 
--- one record more on both sides, of the same thread and with the same call
+-- one more record on both sides, of the same thread and with the same call
 pub as-before-more :
     (w v : RoundState) (h : History) (marks after : List Bool) (r q : Record)
     → ContinuesAs h marks w → IsWhole w.machine
@@ -345,7 +345,7 @@ as-before-reused w v h marks r goes whole at fit machine records =
 
 -- ---- the next record
 
--- what is found stands at its place
+-- a found record is at its place
 pub at-place :
     (h : History) (m : Machine) (t : ℕ) (r : Record) → record_for (Some h) m t ≡ Some r
     → slice_get h.records (place_in (Some h) m t) ≡ Some r
@@ -412,7 +412,7 @@ next-fits w h marks t r goes past place there clean =
           ∙ ap (λ (u : ℕ). same_registers r.start (hart_of w.machine u).regs) own;
     }
 
--- where no page is marked, none that was read is
+-- if no page is marked, no read page is
 pub clean-unmarked : (marks : List Bool) (reads : List ReadPage) → IsClean marks → all_unmarked marks reads ≡ true
 clean-unmarked marks [] clean = refl
 clean-unmarked marks (r ∷ reads) clean =
@@ -499,7 +499,7 @@ first-memory s = refl
 
 -- ---- events
 
--- the first elements of what some first elements begin with
+-- the front of a list without its last element is a front of it too
 front-of : {X : Type 0} (xs : List X) (x : X) (all : List X) (n : ℕ) → xs ++ x ∷ [] ≡ take n all → xs ≡ take (length xs) all
 front-of [] x all n is = refl
 front-of (y ∷ xs) x [] zero is = absurd (let none = is in cc)
@@ -510,7 +510,7 @@ front-of (y ∷ xs) x (a ∷ all) (suc n) is =
     let tail : xs ++ x ∷ [] ≡ take n all = cc in
     ap₂ (λ b l. b ∷ l) head (front-of xs x all n tail)
 
--- A round with an entry and its record more.
+-- A round with one more entry and its record.
 pub record IsMore (w v : RoundState) (e : Entry) (r : Record) : Type 0 where
   pub setup : v.setup ≡ w.setup
   pub past : v.past ≡ w.past
@@ -518,7 +518,7 @@ pub record IsMore (w v : RoundState) (e : Entry) (r : Record) : Type 0 where
   pub schedule : v.schedule ≡ w.schedule ++ e ∷ []
   pub records : v.records ≡ w.records ++ r ∷ []
 
--- what has reused a history's first steps had done so before its last one
+-- a round that has reused a history's first steps had done so before its last one
 reused-before :
     (h : History) (w v : RoundState) (e : Entry) (r : Record)
     → IsApplied w → length w.records ≡ length w.schedule → IsMore w v e r → HasReused h v → HasReused h w
@@ -578,7 +578,7 @@ reuse-as-before w v t e r marks next was whole applied count is_next there can m
           subst (λ (b : Bool). AreClean (cond b marks None)) (sym on) (was.clean h coherent before);
     }
 
--- what isn't marked after an executed step was written by neither
+-- a page that isn't marked after an executed step is the same on both sides
 committed-page :
     (mem old : Memory) (marks new : List Bool) (r q : Record) (p : ℕ)
     → length mem ≡ length old → length marks ≡ length old → page_of mem p ≡ page_of old p

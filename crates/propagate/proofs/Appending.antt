@@ -1,4 +1,4 @@
--- When a record may be appended, and what is there after an event.
+-- When a record may be appended, and the round after an event.
 use Rattle.std.proofs.Common.{◌≡◌, ◌<◌, ◌≤◌, ℕ, zero, suc, Bool, true, false, not, ◌||◌, eqb, List, [], ◌∷◌, length, count_by, Option, Some, None, is_some, is_none, refl, ap, sym, ◌∙◌, arith}
 use Rattle.std.proofs.lemmas.Bool.{and_parts}
 use Rattle.std.proofs.lemmas.Bool.Decides.{nat_tests}
@@ -79,7 +79,7 @@ fitting-append w r kept counted going fit =
     let parts = fits-parts w.machine r fit in
     can-append w r kept counted (going-none w.machine.ending w.stopped going) parts.0 parts.1
 
--- the history's record, where it can be reused
+-- the history's record, if it can be reused
 pub record Reusable (w : RoundState) (t : ℕ) (r : Record) : Type 0 where
   pub append : CanAppend w r
   pub thread : r.thread ≡ t

@@ -31,7 +31,7 @@ append-nil-at : (xs : List ℕ) → xs ++ [] ≡ xs
 append-nil-at [] = refl
 append-nil-at (x ∷ xs) = ap (λ (ys : List ℕ). x ∷ ys) (append-nil-at xs)
 
--- the least of a measure, and one more
+-- the least of a measure, with one more
 
 least-more :
     (f : ℕ → ℕ) (x : ℕ) (xs : List ℕ) (t : ℕ)
@@ -47,7 +47,7 @@ filter-above f n l (x ∷ xs) below all =
     let other : eqb (f x) n ≡ false = ne_eqb (f x) n (λ same. let low = all.0 in omega arith) in
     rw other (filter-above f n l xs below all.1)
 
--- the thread is alone where its measure is lower
+-- the thread is alone if its measure is lower
 least_by-lower :
     (f : ℕ → ℕ) (x : ℕ) (xs : List ℕ) (t : ℕ)
     → f t < least (map f (x ∷ xs)) → least_by f ((x ∷ xs) ++ t ∷ []) ≡ t ∷ []
@@ -63,7 +63,7 @@ least_by-lower f x xs t below =
     ∙ ap (λ (ys : List ℕ). ys ++ cond (eqb (f t) (f t)) (t ∷ []) []) none
     ∙ ap (λ b. cond b (t ∷ []) []) same
 
--- the last of many where it is the same
+-- the last of several if it is the same
 least_by-same :
     (f : ℕ → ℕ) (x : ℕ) (xs : List ℕ) (t : ℕ)
     → f t ≡ least (map f (x ∷ xs)) → least_by f ((x ∷ xs) ++ t ∷ []) ≡ least_by f (x ∷ xs) ++ t ∷ []
@@ -76,7 +76,7 @@ least_by-same f x xs t at =
     ∙ filter-more (λ u. eqb (f u) (least (map f (x ∷ xs)))) (x ∷ xs) t
     ∙ ap (λ b. filter (λ u. eqb (f u) (least (map f (x ∷ xs)))) (x ∷ xs) ++ cond b (t ∷ []) []) same
 
--- and none of them where it is higher
+-- and none of them if it is higher
 least_by-higher :
     (f : ℕ → ℕ) (x : ℕ) (xs : List ℕ) (t : ℕ)
     → least (map f (x ∷ xs)) < f t → least_by f ((x ∷ xs) ++ t ∷ []) ≡ least_by f (x ∷ xs)
@@ -91,7 +91,7 @@ least_by-higher f x xs t above =
     ∙ ap (λ b. filter (λ u. eqb (f u) (least (map f (x ∷ xs)))) (x ∷ xs) ++ cond b (t ∷ []) []) other
     ∙ append-nil-at (filter (λ u. eqb (f u) (least (map f (x ∷ xs)))) (x ∷ xs))
 
--- the first of those of the least measure, and one more
+-- the first of those of the least measure, with one more
 
 first-append : (xs ys : List ℕ) (u : ℕ) → first_of xs ≡ Some u → first_of (xs ++ ys) ≡ Some u
 first-append [] ys u is = cc
@@ -117,7 +117,7 @@ first-more g (x ∷ xs) t u is at =
           ap first_of (least_by-higher g x xs t (omega arith)) ∙ is ∙ ap (λ b. Some (cond b t u)) (sym no)
     ]
 
--- whoever is among those of the least measure has it
+-- each of those of the least measure has it
 least_by-at : (f : ℕ → ℕ) (xs : List ℕ) → AllByRecursion (λ u. eqb (f u) (least (map f xs)) ≡ true) (least_by f xs)
 unfolding least_by
 least_by-at f xs = all-pass (λ u. eqb (f u) (least (map f xs))) xs
@@ -126,7 +126,7 @@ least_by-all : (P : ℕ → Type 0) (f : ℕ → ℕ) (xs : List ℕ) → AllByR
 unfolding least_by
 least_by-all P f xs all = all-filter P (λ u. eqb (f u) (least (map f xs))) xs all
 
--- of some threads the one that comes first by two measures
+-- the first of some threads by two measures
 abbrev first_by : (ℕ → ℕ) → (ℕ → ℕ) → List ℕ → Option ℕ
 first_by f g xs = first_of (least_by g (least_by f xs))
 
@@ -187,7 +187,7 @@ pub best-more :
 unfolding best
 best-more past m xs t u is = first_by-more (place_in past m) (λ v. (hart_of m v).number) xs t u is
 
--- the best of none, and of one
+-- the best of no thread, and of one
 pub best-nobody : (past : Option History) (m : Machine) → best past m [] ≡ None
 unfolding best least_by
 best-nobody past m = refl
@@ -216,7 +216,7 @@ pub best-first :
 best-first past m xs t is =
     ap (λ (ys : List ℕ). best past m (ys ++ t ∷ [])) (best-none past m xs is) ∙ best-single past m t
 
--- who is best is one of those
+-- the best is one of them
 pub best-all :
     (P : ℕ → Type 0) (past : Option History) (m : Machine) (xs : List ℕ) (u : ℕ)
     → AllByRecursion P xs → best past m xs ≡ Some u → P u
@@ -224,13 +224,13 @@ unfolding best
 best-all P past m xs u all is =
     first-all P _ u (least_by-all P (λ t. (hart_of m t).number) _ (least_by-all P (place_in past m) xs all)) is
 
--- where some of the threads are left out
+-- if some of the threads are removed
 
 abbrev precedes : Option History → Machine → ℕ → ℕ → Bool
 precedes past m t u = comes_before (place_in past m t) (hart_of m t).number (place_in past m u) (hart_of m u).number
 
--- The best of those that are left doesn't come before the best of all, and is the same where that one is left; where
--- there are none, none are left.
+-- The best of the remaining threads doesn't come before the best of all, and is the same if that one remains; without
+-- a best of all, no thread remains.
 pub record IsAhead (past : Option History) (m : Machine) (p : ℕ → Bool) (xs ys : List ℕ) : Type 0 where
   pub kept : (u : ℕ) → best past m xs ≡ Some u → p u ≡ true → best past m ys ≡ Some u
   pub behind : (u v : ℕ) → best past m xs ≡ Some u → best past m ys ≡ Some v → precedes past m v u ≡ false
@@ -251,7 +251,7 @@ not-before :
     → comes_before a b c d ≡ true → comes_before e f c d ≡ false → comes_before e f a b ≡ false
 not-before a b c d e f first behind = grind (arith, nat_tests, first, behind)
 
--- one thread more, left or not
+-- one more thread, removed or not
 
 ahead-of :
     (past : Option History) (m : Machine) (p : ℕ → Bool) (xs ys : List ℕ) (u : ℕ)
@@ -280,7 +280,7 @@ ahead-first past m p t false is =
     ahead-of past m p (t ∷ []) [] t (best-single past m t) (λ passes. cc)
     (λ v has. let nobody = best-nobody past m in cc)
 
--- where the new one is the best of all
+-- if the new one is the best of all
 ahead-new :
     (past : Option History) (m : Machine) (p : ℕ → Bool) (xs ys : List ℕ) (t u : ℕ) (b : Bool) (o : Option ℕ)
     → IsAhead past m p xs ys → best past m xs ≡ Some u → precedes past m t u ≡ true → p t ≡ b → best past m ys ≡ o
@@ -313,7 +313,7 @@ ahead-new past m p xs ys t u false o is some first passes left =
     not-before (place_in past m t) (hart_of m t).number (place_in past m u) (hart_of m u).number (place_in past m v)
     (hart_of m v).number first (is.behind u v some (ap (best past m) (sym (append-nil-at ys)) ∙ has)))
 
--- where the best so far stays
+-- if the best so far stays
 ahead-old :
     (past : Option History) (m : Machine) (p : ℕ → Bool) (xs ys : List ℕ) (t u : ℕ) (b : Bool) (o : Option ℕ)
     → IsAhead past m p xs ys → best past m xs ≡ Some u → precedes past m t u ≡ false → p t ≡ b → best past m ys ≡ o

@@ -18,7 +18,7 @@ use Rattle.propagate.specs.declared.picking.Leaders.{Leaders}
 use Rattle.propagate.specs.Choosing.{candidate_of, free_below, due_below, leader_of, AreLeadersBelow, comes_before, leads, better, is_something}
 use Rattle.propagate.proofs.Best.{filter-more, range-more, best-nobody, best-more, best-first, best-none, best-all, IsAhead, ahead-none, ahead-more}
 
--- the better of a leader and of one more leads all
+-- the better of a leader and one more thread leads all
 
 leads-first :
     (past : Option History) (m : Machine) (threads : List ℕ) (next : Candidate) (o : Option ℕ)
@@ -61,7 +61,7 @@ leader-more past m threads None next leads same = leads-first past m threads nex
 leader-more past m threads (Some leader) next leads same =
     leads-more past m threads leader next (best past m threads) refl leads same
 
--- one thread more
+-- one more thread
 
 below-more :
     (w : RoundState) (t : ℕ)
@@ -161,7 +161,7 @@ first-more w t leader next leads free is =
 pub first-none : (w : RoundState) → None ≡ leader_of w (free_below w 0)
 first-none w = ap (option_map (candidate_of w.past w.machine)) (sym (best-nobody w.past w.machine))
 
--- where the best free thread is due, it is the best of those that are
+-- if the best free thread is due, it is the best of those that are
 
 abbrev IsDueAhead : RoundState → List ℕ → List ℕ → Type 0
 IsDueAhead w free due = IsAhead w.past w.machine (is_due w.past w.machine) free due
@@ -234,7 +234,7 @@ leaders-due w t place number found below free first due is_place is_number = rec
       ∙ ap (leader_of w) (sym (free-more w t free));
 }
 
--- one that wouldn't lead, due or not
+-- a thread that wouldn't lead, due or not
 pub leaders-behind :
     (w : RoundState) (t place number : ℕ) (found : Leaders)
     → AreLeadersBelow w t found
@@ -327,7 +327,7 @@ choice-free w found any leads is in_flight =
     (sym (thread-of w (free_below w (length w.machine.harts)))
     ∙ ap (option_map (λ (c : Candidate). c.thread)) (sym leads.free))
 
--- the choice is the leader of those that are due, where there is one or anybody is in flight, and else the leader of
+-- the choice is the leader of the due threads, if there is one or any thread is in flight, and else the leader of
 -- all
 pub choice-of :
     (w : RoundState) (found : Leaders) (b : Bool)
@@ -351,7 +351,7 @@ choice-of w found b leads is = by found.due (is_any_in_flight w.in_flight) refl 
         choice-free w found false leads none in_flight
         ∙ ap (λ x. option_map (λ (c : Candidate). c.thread) (cond x found.due found.free)) both
 
--- where all threads are due and nobody is in flight, the best free one is chosen
+-- if all threads are due and none is in flight, the best free one is chosen
 
 filter-all : (p : ℕ → Bool) (xs : List ℕ) → ((u : ℕ) → p u ≡ true) → filter p xs ≡ xs
 filter-all p [] all = refl
@@ -385,7 +385,7 @@ choice-all_due w leader all nobody leads = by leader leads
         either true c = refl
         either false c = refl
 
--- who is chosen is free
+-- the chosen thread is free
 
 eligible-all :
     (P : ℕ → Type 0) (due free : List ℕ) (any : Bool)
@@ -439,7 +439,7 @@ pick-chosen w t fit going chosen can =
     pick-going w going ∙ ap (with_choice w.past w.machine) chosen
     ∙ ap (λ b. cond b (pick.Reuse t) (pick.Run t)) (sym (chosen-fits w t going chosen) ∙ can)
 
--- where a worker is to wait, nobody who is free is due
+-- if a worker has to wait, no free thread is due
 pub hold-none_due :
     (w : RoundState) (t : ℕ) → pick_of w ≡ pick.Hold → is_free_in w.machine w.in_flight t ≡ true
     → is_due w.past w.machine t ≡ false
@@ -485,7 +485,7 @@ picked-by w false (Some u) p over chosen is = by (fits_next w.past w.machine u) 
 pub picked-run : (w : RoundState) (t : ℕ) → pick_of w ≡ pick.Run t → can_take w t ≡ true
 picked-run w t is = (picked-by w (is_finished w) (choice_by w.past w.machine w.in_flight) (pick_of w) refl refl refl).1 t is
 
--- whether anything is picked doesn't depend on what fits
+-- whether anything is picked doesn't depend on which records fit
 pub something_picked :
     (w : RoundState)
     → (not (is_finished w) && is_some (choice_by w.past w.machine w.in_flight)) ≡ is_something (pick_of w)

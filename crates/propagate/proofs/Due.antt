@@ -1,4 +1,4 @@
--- Who is due, by the clock of the place of the thread's next step.
+-- Which threads are due, by the clock of the place of the thread's next step.
 use Rattle.std.proofs.Common.{◌≡◌, ◌≢◌, ◌<◌, ◌≤◌, ◌⊎◌, ◌↔◌, ℕ, zero, suc, Bool, true, false, ◌&&◌, eqb, ltb, leb, cond, List, [], ◌∷◌, All, length, map, get_or, Option, Some, None, refl, ap, sym, ◌∙◌, subst, inl, inr, arith}
 use Rattle.std.specs.Bool.{Decides}
 use Rattle.std.specs.List.{AllByRecursion, list_all, position_or_len}
@@ -18,7 +18,7 @@ use Rattle.round_spec.proofs.Placed.{facts-of, facts-length, thread-is, absent-d
 use Rattle.round_spec.proofs.Clocked.{passed-clock}
 use Rattle.propagate.specs.Choosing.{has_made, HaveMade}
 
--- the records of what there is to go by
+-- the records of the history, if there is one
 
 pub some-run : (past : Option History) (h : History) → past ≡ Some h → AreOfRun h.records → AreOfRun (past_records past)
 some-run past h is run = subst (λ (p : Option History). AreOfRun (past_records p)) (sym is) run
@@ -28,7 +28,7 @@ none-run past is =
     subst (λ (p : Option History). AreOfRun (past_records p)) (sym is)
     (record { numbered = refl; threads = refl; few = omega arith })
 
--- the facts of a history are as many as its records, and of threads that there are
+-- a history has as many facts as records, and they are of threads that exist
 
 pub few-facts : (fs : List Fact) (h : History) → fs ≡ facts h → AreOfRun h.records → length fs ≤ 65536
 few-facts fs h is run =
@@ -53,7 +53,7 @@ have-threads fs h is run =
     (All-from_recursion (λ (f : Fact). f.thread < 32) (facts h)
     (of-threads (facts h) h.records (facts-of h) run.threads))
 
--- a clock counts no step of a thread that can't be
+-- a clock counts no step of a thread that can't exist
 
 thread-below : (rs : List Record) (k : ℕ) → HaveThreads rs → get_or (threads_of_records rs) k 0 < 32
 thread-below [] k have = omega arith
@@ -71,7 +71,7 @@ counts-nothing h j u have past =
     and_left (eqb (fact_at (facts h) k).thread u) (is_up_to (facts h) j k)
     (ne_eqb (fact_at (facts h) k).thread u (λ same. omega arith)))
 
--- no place is behind that of who isn't there
+-- no place is after that of a record that isn't there
 position-within : (p : Record → Bool) (qs : List Record) → position_or_len p qs ≤ length qs
 position-within p [] = omega arith
 position-within p (q ∷ qs) = by (p q) (position-within p qs)
@@ -83,7 +83,7 @@ position-within p (q ∷ qs) = by (p q) (position-within p qs)
     by true rest = omega arith
     by false rest = omega arith
 
--- who isn't in the history is due
+-- a thread that isn't in the history is due
 pub absent-is_due :
     (past : Option History) (m : Machine) (t : ℕ)
     → AreOfRun (past_records past) → length (past_facts past) ≤ place_in past m t → is_due past m t ≡ true
@@ -95,7 +95,7 @@ absent-is_due (Some h) m t run far =
     let long = facts-length h in
     omega arith)
 
--- who is there is due where each thread has made what the clock counts of it
+-- a thread that is in the history is due if each other thread has made what the clock counts of it
 
 made-or : (m : Machine) (u steps : ℕ) → has_made m u steps ≡ true → (steps ≤ (hart_of m u).number) ⊎ (has_exited m u ≡ true)
 made-or m u steps is =
@@ -116,7 +116,7 @@ same-bit true b to from = sym (to refl)
 same-bit false true to from = from refl
 same-bit false false to from = refl
 
--- what the clock of a place tells
+-- what the clock of a place determines
 abbrev Tells : History → Machine → ℕ → Type 0
 Tells h m j =
     are_passed_before (facts h) m j ≡ true

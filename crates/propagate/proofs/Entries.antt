@@ -22,7 +22,7 @@ get-other (z ∷ xs) zero (suc q) x other = refl
 get-other (z ∷ xs) (suc p) zero x other = refl
 get-other (z ∷ xs) (suc p) (suc q) x other = get-other xs p q x (λ same. other (ap suc same))
 
--- what isn't set stays
+-- an element that isn't set stays
 pub each-other :
     {A : Type 0} (xs : List A) (ps : List ℕ) (x : A) (p : ℕ) → is_in p ps ≡ false
     → slice_get (with_each xs ps x) p ≡ slice_get xs p
@@ -32,7 +32,7 @@ each-other xs (q ∷ ps) x p none =
     let other : p ≢ q = λ same. grind (arith, nat_tests) in
     each-other (set xs q x) ps x p (or-right (eqb q p) (is_in p ps) none) ∙ get-other xs p q x other
 
--- what is set is so
+-- an element that is set has the new value
 pub each-in :
     {A : Type 0} (xs : List A) (ps : List ℕ) (x y : A) (p : ℕ) → is_in p ps ≡ true
     → slice_get (with_each xs ps x) p ≡ Some y → y ≡ x
@@ -67,7 +67,7 @@ index-set (y ∷ xs) (suc q) x (suc u) = more (index-set xs q x u)
     more (inl both) = inl (ap suc both.0, both.1)
     more (inr same) = inr same
 
--- an entry after some were set: it is among them, or as before
+-- an element after some were set: it is among them, or as before
 pub each-index :
     (xs : List ℕ) (ps : List ℕ) (x u : ℕ)
     → ((is_in u ps ≡ true) × (slice_index (with_each xs ps x) u ≡ x))
@@ -103,7 +103,7 @@ get-replicate zero (suc p) x y at = cc
 get-replicate (suc n) zero x y at = cc
 get-replicate (suc n) (suc p) x y at = get-replicate n p x y at
 
--- one entry more
+-- one more entry
 pub length-push : {A : Type 0} (xs : List A) (x : A) → length (xs ++ x ∷ []) ≡ suc (length xs)
 length-push [] x = refl
 length-push (y ∷ xs) x = ap suc (length-push xs x)

@@ -59,7 +59,7 @@ own-record m t r thread number start kept =
     ∙ ap (λ (x : Registers). record { thread = t; number = (hart_of m t).number; start = x; kept = r.kept }) start
     ∙ ap (λ (k : Kept). record { thread = t; number = (hart_of m t).number; start = (hart_of m t).regs; kept = k }) kept
 
--- what running a job gave is that record
+-- the result of running a job is that record
 pub run-record :
     (m : Machine) (t : ℕ) (job : Job) (run : Run) → IsJobOf m t job → IsRunOf job run → arc_value run.rec
     ≡ record_of m t
@@ -77,7 +77,7 @@ take-going w t can =
     not-true (is_finished w) (and_parts (not (is_finished w)) (is_ready (hart_of w.machine t).status && not (is_in_flight w t))
     parts.0).0
 
--- the step of a thread that is in flight can be committed, while the round isn't finished
+-- the step of a thread that is in flight can be committed, as long as the round isn't finished
 pub in_flight-commits :
     (w : RoundState) (t : ℕ) (r : Record)
     → IsInOrder w → is_in_flight w t ≡ true → is_finished w ≡ false → r ≡ record_of w.machine t
@@ -131,7 +131,7 @@ commit-counts w v t r same commits is own =
     ∙ executed-more w.schedule w.records (record { thread = t; reused = false }) (record_of w.machine t) same
     ∙ ap (λ (x : Record). executed_by w + x.kept.count) (sym own)
 
--- also where it was taken just before
+-- also if it was taken just before
 pub own-counts :
     (w v u : RoundState) (t : ℕ) (r : Record)
     → IsInOrder w → IsCounted w → can_take w t ≡ true
@@ -191,7 +191,7 @@ ok-costs (Err error) n w v e counted nothing is = tt
 picks-more : (n k : ℕ) (w : RoundState) → n ≡ suc k → after_picks k (after_pick w (pick_of w)) ≡ after_picks n w
 picks-more n k w is = rw is refl
 
--- while a history is replayed, a later counter of compared pages is that of the beginning
+-- if two parts of a round spare comparisons, so do both together
 spares-both :
     (a b c : ℕ) (u w v : RoundState) → Spares a u b w → Spares b w c v → Spares a u c v
 spares-both a b c u w v first next = λ h coherent replays.
@@ -215,7 +215,7 @@ partway-pick n k after begun w v start before now compared_start compared_before
       compares = let so_far = way.compares in omega arith;
     }
 
--- where nothing is picked, nothing is done any more
+-- if nothing is picked, nothing is done any more
 picks-stay : (n : ℕ) (w : RoundState) → after_pick w (pick_of w) ≡ w → after_picks n w ≡ w
 picks-stay zero w stays = refl
 picks-stay (suc n) w stays = ap (after_picks n) stays ∙ picks-stay n w stays
@@ -312,7 +312,7 @@ pub alone-scratch :
     → IsSetup setup → w ≡ lone_round setup past → IsSound past setup → IsFromScratch w
 alone-scratch setup past w valid is sound = subst IsFromScratch (sym is) (lone-scratch setup past valid sound)
 
--- each entry was picked when its turn came
+-- each entry was picked when the schedule was as long as its place
 pub alone-picked :
     (setup : Setup) (past : Option History) (w : RoundState)
     → IsSetup setup → w ≡ lone_round setup past → IsSound past setup → ArePicked setup past w.schedule w.picked
@@ -355,7 +355,7 @@ taken_step_commits w r frame kept same own going in_flight =
     let is = in_flight-commits w r.thread r kept in_flight going (own in_flight) in
     record { going = is.going; same_frame = same; taken = is.taken; fit = is.fit }
 
--- the round of one worker has its setup and its history
+-- the round of one worker is of its setup, and is based on its history
 
 pub alone-setup :
     (setup : Setup) (past : Option History) (w : RoundState) → w ≡ lone_round setup past → w.setup ≡ setup

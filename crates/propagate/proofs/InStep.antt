@@ -1,4 +1,4 @@
--- Who is chosen while a round goes on as its history did with nobody in flight.
+-- Which thread is chosen while a round continues as its history did, with none in flight.
 use Rattle.std.proofs.Common.{◌≡◌, ◌≤◌, ℕ, zero, suc, Bool, true, false, List, [], ◌∷◌, ◌++◌, length, take, drop, Option, Vec, Some, None, is_none, refl, ap, sym, ◌∙◌, arith}
 use Rattle.std.proofs.lemmas.Bool.{and_parts}
 use Rattle.std.proofs.lemmas.List.{take_all}
@@ -86,7 +86,7 @@ in_step-next w (Some marks) t was step whole going count next =
         ∙ sym (ap (λ (p : Option History). slice_get (past_records p) (length w.schedule)) is) ∙ at)
         ∙ sym there
 
--- after all of its steps every thread is due
+-- after all of its steps, every thread is due
 
 numbered : (h : History) → is_coherent h ≡ true → is_numbered h.records ≡ true
 numbered h coherent = by h.records refl

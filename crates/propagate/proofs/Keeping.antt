@@ -1,4 +1,4 @@
--- What a round keeps beside what is seen of it, after each event.
+-- What a round keeps beside its state, after each event.
 use Rattle.std.proofs.Common.{◌≡◌, ◌≤◌, ◌+◌, ◌*◌, ℕ, zero, suc, Bool, true, false, not, cond, ◌&&◌, List, [], ◌∷◌, ◌++◌, length, length-append, set, replicate, Option, Vec, Some, None, is_some, is_none, refl, ap, sym, ◌∙◌, subst, arith}
 use Rattle.std.proofs.lemmas.Bool.{and_parts}
 use Rattle.std.specs.Global.{Global}
@@ -58,7 +58,7 @@ executed-more [] (q ∷ rs) e r same = absurd (omega arith)
 executed-more (d ∷ es) [] e r same = absurd (omega arith)
 executed-more (d ∷ es) (q ∷ rs) e r same = let rest = executed-more es rs e r (omega arith) in omega arith
 
--- by a sound history the sum is the one that the report tells
+-- if the history is sound, the sum is the one in the report
 pub reported :
     (w : RoundState) (instructions : ℕ)
     → IsInOrder w → instructions ≡ executed_instructions w.schedule w.records
@@ -106,7 +106,7 @@ kept_opening setup past facts marks valid as_before knows =
       right = tt;
     }
 
--- what is known of what the steps of the history do
+-- what is known of the steps of the history
 
 pub knows-right :
     (w : RoundState) (marks : Option (Vec Bool Global)) (facts : Option (List Fact))
@@ -114,7 +114,7 @@ pub knows-right :
 knows-right w marks None knows = tt
 knows-right w marks (Some fs) knows = knows
 
--- what was found is enough, with whatever marks
+-- the facts that were found are enough, with any marks
 pub knows-found :
     (v : RoundState) (marks : Option (Vec Bool Global)) (past : Option History) (facts : Option (List Fact))
     → IsKnown past facts → v.past ≡ past → KnowsEnough v marks facts
@@ -127,7 +127,7 @@ pub knows-more :
 knows-more w marks before facts true knows found = knows-found w marks w.past facts found refl
 knows-more w marks before facts false knows found = subst (KnowsEnough w marks) (sym found) knows
 
--- at the start it is found if there are no marks
+-- at the start they are found if there are no marks
 pub knows-opening :
     (setup : Setup) (past : Option History) (marks : Option (Vec Bool Global)) (before facts : Option (List Fact))
     → IsRight past before → IsFound (not (is_some marks)) past before facts
@@ -140,7 +140,7 @@ knows-opening setup past (Some marks) before facts right found =
     by None known = record { nobody = refl; marked = refl }
     by (Some fs) known = known
 
--- it stays enough where nobody is taken
+-- they stay enough if no thread is taken
 pub knows-same :
     (w v : RoundState) (marks : Option (Vec Bool Global)) (facts : Option (List Fact))
     → KnowsEnough w marks facts → v.past ≡ w.past → v.in_flight ≡ w.in_flight → KnowsEnough v marks facts
@@ -156,7 +156,7 @@ none_in_flight-set : (t : ℕ) → set none_in_flight t false ≡ none_in_flight
 unfolding none_in_flight
 none_in_flight-set t = none-set 32 t
 
--- where anybody is in flight, all is known
+-- if any thread is in flight, all facts are known
 pub knows-in_flight :
     (w v : RoundState) (marks after : Option (Vec Bool Global)) (facts : Option (List Fact)) (t : ℕ)
     → KnowsEnough w marks facts → is_in_flight w t ≡ true → v.past ≡ w.past → KnowsEnough v after facts
@@ -197,7 +197,7 @@ knows-reused w v marks before facts true knows found past in_flight =
     knows-same w v marks facts (subst (KnowsEnough w marks) (sym found) knows) past in_flight
 knows-reused w v marks before facts false knows found past in_flight = knows-found v None w.past facts found past
 
--- a round after what its history's steps do was found
+-- a round after the facts of its history were found
 pub kept-found :
     (w : RoundState) (i : ℕ) (fs gs : Option (List Fact)) (b : Option (Vec Bool Global)) (vs : Option Versions)
     (needed : Bool)
@@ -248,7 +248,7 @@ applied-round w v r applied fit setup machine records =
           ∙ ap (λ (rs : List Record). can_apply_from (first w.setup) rs) records ∙ more.1;
     }
 
--- what a round with an end leaves holds together
+-- the history of a round with an end is coherent
 pub applied-coherent : (w : RoundState) → IsApplied w → is_some w.machine.ending ≡ true → is_coherent (history_of w) ≡ true
 applied-coherent w applied ended =
     let ends : is_some (applied_from (first w.setup) w.records).ending ≡ true =
@@ -296,7 +296,7 @@ kept-happens w v e j gs c us kept on_map is setup applied points executed few as
       right = right;
     }
 
--- where one is; what happens does so to that round or to a later one that is as long
+-- one more entry, by an event that happens to the round, or to a later one that is as long
 pub kept-more :
     (w x v : RoundState) (e : Event) (i j : ℕ) (fs gs : Option (List Fact))
     (b c : Option (Vec Bool Global)) (vs us : Option Versions) (entry : Entry) (r : Record) (point : ℕ)
@@ -318,7 +318,7 @@ kept-more w x v e i j fs gs b c vs us entry r point kept valid on_map is setup s
     (rw schedule (omega arith))
     as_before knows right
 
--- what is left
+-- the round's own history
 
 pub left_honest :
     (w : RoundState) → IsSetup w.setup → IsInOrder w → IsSound w.past w.setup → is_some w.machine.ending ≡ true

@@ -1,4 +1,4 @@
--- Versions of pages that a round is known to have.
+-- Which versions the pages of a round are known to be.
 use Rattle.std.proofs.Common.{leb, ◌≡◌, ◌≢◌, ◌<◌, ◌≤◌, ◌+◌, ℕ, suc, Bool, true, false, ◌&&◌, ◌||◌, eqb, cond, List, [], ◌∷◌, drop, length, map, set, slice_index, zero, Option, option_map, Box, Vec, Some, None, is_none, refl, ap, ap₂, sym, ◌∙◌, subst, inl, inr, ◌⊎◌, arith}
 use Rattle.std.proofs.lemmas.Bool.{and_parts, cases_eq, cases_lt, eq-eqb, eqb-true}
 use Rattle.std.proofs.lemmas.Bool.Decides.{nat_tests}
@@ -104,7 +104,7 @@ right-same w v (Some vs) were past machine schedule = λ h is.
       pages = subst (λ (m : Machine). AreOldPages h m vs.pages.items) (sym machine) old.pages;
     }
 
--- what a version that is known says
+-- a known version
 record IsOfVersion (version : Option ℕ) (page : Option (Option ℕ)) : Type 0 where
   pub number : ℕ
   pub found : version ≡ Some number
@@ -129,7 +129,7 @@ has-at view (q ∷ reads) zero r fit at =
 has-at view (q ∷ reads) (suc k) r fit at =
     has-at view reads k r (and_parts (bytes_eq (page_of view q.slot) q.bytes) (has view reads) fit).1 at
 
--- a read page more is in the view, or the first that isn't
+-- one more read page is in the view, or is the first that isn't
 pub has-more :
     (view : Memory) (reads : List ReadPage) (k : ℕ) (r : ReadPage) → slice_get reads k ≡ Some r
     → has view (drop k reads) ≡ (bytes_eq (page_of view r.slot) r.bytes && has view (drop (suc k) reads))
@@ -267,7 +267,7 @@ known-next w h v t r versions past none ready there =
               ]
         ]
 
--- the same of the history that a round goes by
+-- the same of the history that the round is based on
 pub known-next-of :
     (w : RoundState) (v : Versions) (t : ℕ) (r : Record)
     → AreRight w (Some v) → can_begin w t ≡ true → record_for w.past w.machine t ≡ Some r → IsKnownNext w v t r
@@ -316,7 +316,7 @@ length-again written viewed pages t after s =
     length-rewritten (learned written viewed pages t s.read.items) after s.written.items
     ∙ length-learned written viewed pages t s.read.items
 
--- one version more is known
+-- one more version is known
 known-more :
     (h : History) (m : Machine) (pages : List (Option ℕ)) (p : ℕ) (c : Bool) (o : Option ℕ)
     → AreOldPages h m pages
@@ -336,7 +336,7 @@ known-more h m pages p true (Some x) were is = λ q y at.
       | inr other ↦ were q y (sym (get-other pages q p (Some x) other) ∙ at)
     ]
 
--- what is known once a record fits is right
+-- versions that are noted once a record fits are right
 pub learned-right :
     (reads : List ReadPage) (h : History) (m : Machine) (old new : Memory) (seen : ℕ → Option ℕ)
     (written viewed : List ℕ) (pages : List (Option ℕ)) (t : ℕ)
@@ -358,8 +358,8 @@ learned-right (r ∷ reads) h m old new seen written viewed pages t were has_old
     (λ x cur is. sym (current r.slot cur) ∙ same ∙ versions r.slot x is))
     olds.1 news.1 current versions
 
--- What is known of a page after a step of the history was made again, that leaves a version: the step doesn't write it;
--- or it is of that version, and was of the one that the step found.
+-- What is known of a page that a step of the history writes, after it was made again, if the page is of the version
+-- after that step: it was of the version that the step found.
 pub record IsRewritten (pages : List (Option ℕ)) (after p x : ℕ) (stored : ℕ → Option ℕ) : Type 0 where
   pub version : x ≡ after
   pub number : ℕ
@@ -441,7 +441,7 @@ rewritten-get (d ∷ delta) pages after p x stored at =
           },
         )
 
--- the pages after the step are the versions that it leaves
+-- the pages after the step are the versions after it
 pub rewritten-right :
     (h : History) (k : ℕ) (r : Record) (m : Machine) (pages : List (Option ℕ)) (stored : ℕ → Option ℕ)
     → slice_get h.records k ≡ Some r
@@ -474,7 +474,7 @@ rewritten-right h k r m pages stored at were found size = λ p x known.
         ∙ ap (λ (x : Machine). page_of x.memory p) (machine-more h k r at)
         ∙ ap (λ (v : Memory). page_of v p) (apply-memory (machine_at h k) r))
 
--- who was given a view by a step of a round
+-- which threads were given a view by a step of a round
 given-by :
     (m : Machine) (r : Record) (n : ℕ) (viewed given : List ℕ)
     → IsWhole (apply m r)
@@ -542,7 +542,7 @@ given-by m r n viewed given whole most is long =
 
 -- ---- a step of a round
 
--- A round with the record of a step more.
+-- A round with the record of one more step.
 pub record IsLonger (w v : RoundState) (r : Record) : Type 0 where
   pub past : v.past ≡ w.past
   pub machine : v.machine ≡ apply w.machine r
@@ -584,7 +584,7 @@ first-map : (s : Setup) → (first s).frame.map ≡ map_of s
 unfolding first
 first-map s = refl
 
--- a history that a round was like can be compared with it
+-- a round that continued as its history did can be compared with it
 pub comparable :
     (w : RoundState) (h : History) (marks : Vec Bool Global)
     → IsAsMarked w (Some marks) → w.past ≡ Some h → IsWhole w.machine → w.machine.frame ≡ (first w.setup).frame
@@ -604,7 +604,7 @@ comparable w h marks was past whole framed fuel map =
           ∙ ap (λ (m : Memory). length m) (sym (first-memory h.setup));
     }
 
--- a round with one step more can still be compared
+-- a round with one more step can still be compared
 comparable-longer :
     (h : History) (w v : RoundState) (r : Record) → IsComparable w h → IsLonger w v r → IsComparable v h
 comparable-longer h w v r were longer = record {
@@ -713,7 +713,7 @@ executed-versions h w v now r old made new were longer is_now executed given =
           ];
     }
 
--- the same where nothing need be known
+-- the same if nothing has to be known
 
 pub right-reused :
     (w v : RoundState) (k now : ℕ) (r : Record) (old new : Option Versions)
@@ -737,14 +737,14 @@ right-executed w v now r None (Some new) were longer is_now made = absurd made
 right-executed w v now r (Some old) (Some new) were longer is_now made = λ h is.
     executed-versions h w v now r old made.made new (were h (sym longer.past ∙ is)) longer is_now made.executed made.given
 
--- what is known, or else fresh
+-- the known versions, or else fresh ones
 pub right-either :
     (w : RoundState) (c : Bool) (a b : Option (Box Versions Global)) → AreRight w (unboxed a) → AreRight w (unboxed b)
     → AreRight w (unboxed (cond c a b))
 right-either w true a b first second = first
 right-either w false a b first second = second
 
--- the place of a record that is found is one of a step whose versions are known
+-- the place of a found record is one of a step whose versions are known
 
 pub right-there :
     (w : RoundState) (t : ℕ) (r : Record) (vs : Option (Box Versions Global))

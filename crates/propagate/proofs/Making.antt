@@ -26,7 +26,7 @@ use Rattle.propagate.proofs.Alike.{as-before-same}
 use Rattle.propagate.proofs.KnownPages.{right-same}
 use Rattle.propagate.proofs.Appending.{CanAppend, fitting-append, Reusable, reusable, going-none, can-apply, reuse-can, below-32, take-ready}
 
--- a round with an entry, its record and when it was picked
+-- a round with one more entry, its record and when it was picked
 abbrev pub appended : RoundState → Record → Bool → ℕ → RoundState
 appended w r reused point =
     record w {
@@ -36,7 +36,7 @@ appended w r reused point =
       picked = w.picked ++ point ∷ [];
     }
 
--- the same where its thread was in flight
+-- the same if its thread was in flight
 abbrev pub handed_in : RoundState → Record → RoundState
 handed_in w r =
     record (appended w r false (taken_when w r.thread)) {
@@ -46,7 +46,7 @@ handed_in w r =
 
 -- an executed step that can be committed
 
--- a round in which the step of a thread was begun: the thread is in flight, or was taken
+-- a round in which the step of a thread was started: the thread is in flight, or was taken
 pub record IsBegun (w x : RoundState) : Type 0 where
   pub setup : x.setup ≡ w.setup
   pub machine : x.machine ≡ w.machine
@@ -59,7 +59,7 @@ is-begun w t = by (can_take w t) refl
     by true is = rw (happens-take w t is) (record { setup = refl; machine = refl; stopped = refl })
     by false is = rw (happens-take_not w t is) (record { setup = refl; machine = refl; stopped = refl })
 
--- the round is not finished, and the record fits
+-- the round isn't finished, and the record fits
 pub begun-goes :
     (w : RoundState) (frame : Frame) (r : Record)
     → CanCommit (happens w (Take r.thread)) frame r
@@ -222,7 +222,7 @@ discarded-kept w v i t fs b vs kept in_flight is =
 
 -- ---- the entries of a round after it
 
--- a round that is as before has as many
+-- an unchanged round has as many
 pub goes-nowhere : (v w : RoundState) → v ≡ w → Continues 0 w v
 goes-nowhere v w is =
     record {
@@ -231,7 +231,7 @@ goes-nowhere v w is =
       entries = omega (arith, ap (λ (x : RoundState). length x.schedule) is);
     }
 
--- one with an entry more
+-- a round with one more entry
 pub goes-more :
     (v w u : RoundState) (e : Entry)
     → v.setup ≡ w.setup → v.past ≡ w.past → v.schedule ≡ w.schedule ++ e ∷ [] → w ≡ u → Continues 1 u v

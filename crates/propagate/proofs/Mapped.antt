@@ -37,7 +37,7 @@ happens-on_map w e on =
           (on.mapped here));
     }
 
--- two setups have the same page map where their images have
+-- two setups have the same page map if their images have
 pub same_image : (a b : Setup) → image_pages a.elf ≡ image_pages b.elf → map_of a ≡ map_of b
 unfolding map_of
 same_image a b same =
@@ -52,7 +52,7 @@ same_map a b same =
     (append_cancel_right (image_pages a.elf ++ data_pages 0xC0000 1 ++ data_pages 0xC0001 256)
     (image_pages b.elf ++ data_pages 0xC0000 1 ++ data_pages 0xC0001 256) (data_pages 0xD0000 512) same))
 
--- so to compare the images is to compare the page maps
+-- so comparing the images is comparing the page maps
 pub of_map :
     (w : RoundState) (h : History) (b : Bool) (m n : List Mapped)
     → w.past ≡ Some h → m ≡ image_pages h.setup.elf → n ≡ image_pages w.setup.elf
@@ -69,7 +69,7 @@ of_map w h b m n there first second equal = (
       ∙ sym second),
 )
 
--- what is left is mapped
+-- the round's own history is mapped
 
 pub none_mapped : (w : RoundState) → IsOnMap w → w.past ≡ None → IsMapped (history_of w)
 none_mapped w on none =

@@ -31,7 +31,7 @@ use Rattle.propagate.proofs.Entries.{each-other, each-in, each-index, index-zero
 
 -- ---- times
 
--- What is known of when something happened that happened by a time.
+-- A known time, no later than another one.
 pub record IsBy (o : Option ℕ) (given : ℕ) : Type 0 where
   pub at : ℕ
   pub is : o ≡ Some at
@@ -41,8 +41,8 @@ pub by-some : (o : Option ℕ) (given : ℕ) → is_by o given ≡ true → IsBy
 by-some None given h = cc
 by-some (Some at) given h = record { at = at; is = refl; by = grind (arith, nat_tests) }
 
--- What became of when threads were given their views, by a record's step: of a ready thread that the step didn't touch
--- nothing.
+-- How a record's step changes the times at which threads were given their views: the time of a ready thread which the
+-- step didn't touch stays.
 pub record AreGivenBy (m : Machine) (r : Record) (n : ℕ) (viewed given : List ℕ) : Type 0 where
   pub each :
       (u : ℕ) → is_ready (hart_of (apply m r) u).status ≡ true
@@ -134,7 +134,7 @@ times-apply m r n written viewed given times whole none ready_t gives =
 
 -- ---- the steps of a history
 
--- the facts of a history that holds together
+-- the facts of a coherent history
 
 facts-at :
     (reads : ℕ → ℕ → List ℕ) (m : Machine) (rs : List Record) (k : ℕ) (r : Record) → can_apply_from m rs ≡ true
@@ -152,7 +152,7 @@ facts-at reads m (x ∷ rs) (suc k) r can at =
     ap (λ (l : List Fact). slice_get l (suc k)) (fit-facts reads m x rs parts.0)
     ∙ facts-at reads (apply m x) rs k r parts.1 at
 
--- a step gives views to these threads
+-- the threads to which a step gives views
 pub facts-given :
     (h : History) (k : ℕ) (r : Record) (f : Fact) → is_coherent h ≡ true → slice_get h.records k ≡ Some r
     → slice_get (facts h) k ≡ Some f → f.given ≡ served_by (machine_at h k) r
@@ -166,7 +166,7 @@ facts-given h k r f coherent at there =
     given-of : (f g : Fact) → Some f ≡ Some g → f.given ≡ g.given
     given-of f g both = let same : f ≡ g = cc in ap (λ (x : Fact). x.given) same
 
--- When pages were written and views given, after so many steps of a history: a page is the version of its last writing.
+-- When pages were written and views given, after some steps of a history: a page is the version of its last writing.
 pub record ArePassed (h : History) (place : ℕ) (written viewed : List ℕ) : Type 0 where
   pub times : AreTimes (machine_at h place) place written viewed
   pub stood :
@@ -299,7 +299,7 @@ no-steps h = record { each = λ place r s at there. absurd (none place s there) 
     none zero s there = cc
     none (suc place) s there = cc
 
--- one step more of those whose versions are known
+-- one more step of those whose versions are known
 pub steps-more :
     (h : History) (k : ℕ) (r : Record) (steps : List StepVersions) (s : StepVersions)
     → AreStepsOf h steps → length steps ≡ k → slice_get h.records k ≡ Some r → IsStepOf h k r s

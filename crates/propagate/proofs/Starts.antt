@@ -24,7 +24,7 @@ part_length input k = min (length input) (4096 * k + 4096) - part_start input k
 part-length : (input : List ℕ) (k : ℕ) → length (part_of input k) ≡ part_length input k
 part-length input k = length-chunk (part_start input k) (part_length input k) input (omega arith)
 
--- a page is its bytes, and zeros behind them
+-- a page is its bytes, and zeros after them
 page-of : (input : List ℕ) (k : ℕ) → part_of input k ++ drop (length (part_of input k)) (replicate 4096 0) ≡ input_page input k
 page-of input k =
     ap (λ n. part_of input k ++ drop n (replicate 4096 0)) (part-length input k)
@@ -35,7 +35,7 @@ pub same-page : (a b : List ℕ) (k : ℕ) → part_of a k ≡ part_of b k → i
 same-page a b k same =
     sym (page-of b k) ∙ ap (λ (part : List ℕ). part ++ drop (length part) (replicate 4096 0)) (sym same) ∙ page-of a k
 
--- two memories that differ on the header and on pages of the input alone
+-- two memories that differ only on the header and on pages of the input
 module _
     (image xs ys stack : Memory) (h g : List ℕ) (marks : List Bool)
     (many_xs : length xs ≡ INPUT_PAGES) (many_ys : length ys ≡ INPUT_PAGES)

@@ -13,7 +13,7 @@ pub data_pages-none : (number count : ℕ) → count ≡ 0 → data_pages number
 unfolding data_pages
 data_pages-none number count none = rw none refl
 
--- one page more is one fewer to come
+-- with one more page, one fewer is to come
 pub data_pages-next :
     (pages : List Mapped) (page : Mapped) (number i count : ℕ)
     → i < count → page ≡ record { number = number + i; permission = 6 }
@@ -24,7 +24,7 @@ data_pages-next pages page number i count below is =
     let later : number + (i + 1) ≡ number + i + 1 = omega arith in
     rw (rest, later, is, data_pages-suc (number + i) (count - (i + 1)), append_assoc) refl
 
--- where none is to come, what is there is all
+-- if none is to come, those that are there are all
 pub data_pages-done :
     (pages all : List Mapped) (number count : ℕ) → count ≡ 0 → pages ++ data_pages number count ≡ all → pages ≡ all
 data_pages-done pages all number count none is =

@@ -1,4 +1,4 @@
--- Where the records of each thread stand, as records come and go at the end.
+-- The places of the records of each thread, while records are added and removed at the end.
 use Rattle.std.proofs.Common.{◌≡◌, ◌<◌, ◌≤◌, ◌+◌, ◌-◌, ℕ, zero, suc, Bool, true, false, ◌&&◌, cond, eqb, List, [], ◌∷◌, ◌++◌, All, take, length, set, get_or, count_by, length-append, slice_get, Some, None, inl, inr, refl, ap, sym, subst, ◌∙◌, arith}
 use Rattle.std.proofs.lemmas.Bool.{and_parts, and_from, eq-eqb, eqb-true, ne_eqb, cases_eq, cases_lt, lt-ltb, ltb-true}
 use Rattle.std.proofs.lemmas.Bool.Decides.{nat_tests}
@@ -13,7 +13,7 @@ use Rattle.history_spec.specs.History.{is_of, is_numbered_after, threads_of_reco
 use Rattle.history_spec.proofs.Numbers.{numbered-more}
 use Rattle.release_core.specs.Records.{places_from, IsIndexed, HaveThreads}
 
--- a record more of this thread stands behind all
+-- one more record of this thread comes after all
 pub places-own :
     (k t : ℕ) (rs : List Record) (r : Record)
     → eqb r.thread t ≡ true → places_from k t (rs ++ r ∷ []) ≡ places_from k t rs ++ (k + length rs) ∷ []
@@ -86,7 +86,7 @@ placed-step k t count r rs false other number rest m =
     ap (λ x. get_or (places_from (suc k) t rs) m x) over ∙ next in
     rw here (last ∙ omega arith)
 
--- the record of a thread at a number stands at the place of that number
+-- the record of a thread at a number is at the place of that number
 placed :
     (k t n : ℕ) (earlier : List ℕ) (rs : List Record)
     → is_numbered_after earlier rs ≡ true
@@ -101,7 +101,7 @@ placed k t n earlier (r ∷ rs) numbered =
     ∙ ap (λ x. suc k + position_or_len (is_of t (x + m)) rs) (sum_by_push (λ u. cond (eqb u t) 1 0) earlier r.thread))
     n
 
--- no record is of a thread that there can't be
+-- no record is of a thread that can't exist
 nowhere : (t n : ℕ) (rs : List Record) → HaveThreads rs → THREADS ≤ t → position_or_len (is_of t n) rs ≡ length rs
 nowhere t n [] all past = refl
 nowhere t n (r ∷ rs) all past =
@@ -111,7 +111,7 @@ nowhere t n (r ∷ rs) all past =
     let next : position_or_len (is_of t n) rs ≡ length rs = nowhere t n rs others past in
     rw here (omega arith)
 
--- the place that the index gives, where there is a thread of that number
+-- the place that the index gives, if there is a thread of that number
 pub place_in_row :
     (places : List (List ℕ)) (rs : List Record) (t n : ℕ)
     → IsIndexed places rs → t < THREADS → get_or (get_or places t []) n (length rs) ≡ position_or_len (is_of t n) rs
@@ -125,7 +125,7 @@ place_in_row places rs t n kept below =
     ∙ whole
     ∙ ap (λ m. position_or_len (is_of t m) rs) number
 
--- and where there isn't
+-- and if there is none
 pub place_past :
     (places : List (List ℕ)) (rs : List Record) (t n : ℕ)
     → IsIndexed places rs → THREADS ≤ t → length rs ≡ position_or_len (is_of t n) rs
@@ -161,7 +161,7 @@ indexed-none places none =
       of_run = record { numbered = refl; threads = refl; few = omega arith };
     }
 
--- one record more, and its place
+-- one more record, and its place
 pub indexed-more :
     (places : List (List ℕ)) (rs : List Record) (r : Record)
     → IsIndexed places rs
@@ -205,7 +205,7 @@ without-last xs x =
     let count : length (xs ++ x ∷ []) - 1 ≡ length xs = omega arith in
     ap (λ n. take n (xs ++ x ∷ [])) count ∙ front xs x
 
--- a list without its last element is what stood before that one came
+-- a list without its last element is the one before it was added
 pub undone : (before after rs : List Record) (r : Record) → after ≡ take (length before - 1) before
     → before ≡ rs ++ r ∷ [] → after ≡ rs
 undone before after rs r is pushed = is ∙ ap (λ xs. take (length xs - 1) xs) pushed ∙ without-last rs r
@@ -247,7 +247,7 @@ indexed-less places rs r kept rows =
           };
     }
 
--- what stands at the place of the first that passes is what is found
+-- the element at the place of the first that passes is the one that is found
 pub found_at : (p : Record → Bool) (rs : List Record) (k : ℕ) (r : Record) → k ≡ position_or_len p rs
     → slice_get rs k ≡ Some r → find p rs ≡ Some r
 found_at p rs k r first here = find_at p rs ∙ ap (slice_get rs) (sym first) ∙ here

@@ -15,7 +15,7 @@ same_slot (page ∷ map) a b same =
     ap (λ n. cond (page.number == n) 0 (suc (slot_of map a))) same
     ∙ ap (λ s. cond (page.number == b / 4096) 0 (suc s)) (same_slot map a b same)
 
--- A page that an address has, has the bytes at all addresses of the page.
+-- If a page has an address, it has the bytes at all addresses of the page.
 pub same_page :
     (map : List Mapped) (memory : Memory) (page : List ℕ) (slot a address : ℕ)
     → page ≡ page_of memory slot → slot ≡ slot_of map address → a / 4096 ≡ address / 4096
@@ -24,7 +24,7 @@ same_page map memory page slot a address is at same =
     ap (λ l. get_or l (a % 4096) 0) is
     ∙ ap (λ s. get_or (page_of memory s) (a % 4096) 0) (at ∙ sym (same_slot map a address same))
 
--- Where no page has the address, there are zeros.
+-- If no page has the address, its bytes are zeros.
 pub no_page :
     (map : List Mapped) (memory : Memory) (a address : ℕ) → length memory ≡ length map
     → slot_of map address ≡ length map → a / 4096 ≡ address / 4096
@@ -34,7 +34,7 @@ no_page map memory a address count past same =
     get_or-replicate 4096 (a % 4096) 0 0 (omega arith)
     ∙ sym (no_byte map memory a count (same_slot map a address same ∙ past))
 
--- So many bytes of a page from an offset on are those at as many addresses, from one on that has this offset.
+-- A number of bytes of a page from an offset on are those at as many addresses, from one with this offset on.
 pub page_part :
     (map : List Mapped) (memory : Memory) (page : List ℕ) (address start offset n : ℕ)
     → ((a : ℕ) → a / 4096 ≡ address / 4096 → get_or page (a % 4096) 0 ≡ byte_at map memory a)

@@ -20,7 +20,7 @@ pub past_the_end : (input : List ℕ) (k : ℕ) → length input ≤ 4096 * k �
 unfolding input_page zero_page
 past_the_end input k past = zeros-from input (4096 * k) 4096 past
 
--- What of an input stands from the start to the end of one of its pages, and zeros behind it.
+-- The bytes of an input on one of its pages, and zeros after them.
 pub page_of_part :
     (input page part : List ℕ) (k start end n : ℕ)
     → start ≡ min (length input) (4096 * k) → end ≡ min (length input) (4096 * k + 4096) → n ≡ end - start

@@ -1,4 +1,4 @@
--- Worked examples, each computed by the checker; the digest is left as it is. The lines are those that the report's
+-- Worked examples, each computed by the checker; the digest isn't computed. The lines are those that the report's
 -- format prescribes.
 use Rattle.std.proofs.Common.{◌≡◌, ℕ, Bool, true, false, List, [], ◌∷◌, ◌++◌, Option, Some, None, refl}
 use Rattle.std.specs.Prelude.{codes}
@@ -69,8 +69,8 @@ pub report_lines-hi :
 unfolding digits
 report_lines-hi memory = refl
 
--- A reused entry has the mark =, four workers have four numbers of steps, what is reached stands behind what was
--- executed, and what a watcher read behind these.
+-- A reused entry has the mark =, four workers have four numbers of steps, the reached steps come after the executed
+-- ones, and what a watcher read after these.
 pub report_lines-reused :
     (memory : Memory)
     → report_lines 12

@@ -1,4 +1,4 @@
--- Worked examples of whole reports, each computed by the checker; the digest is left as it is. The text is the one that
+-- Worked examples of whole reports, each computed by the checker; the digest isn't computed. The text is the one that
 -- the report's format prescribes.
 use Rattle.std.proofs.Common.{◌≡◌, ℕ, [], ◌∷◌, ◌++◌, refl}
 use Rattle.std.specs.Prelude.{codes}

@@ -1,4 +1,4 @@
--- What calls with words as arguments do: their answers, what they tell and what they create are words.
+-- What calls with words as arguments do: the values that they answer, report and give to created threads are words.
 use Rattle.std.proofs.Common.{◌≡◌, ◌<◌, ◌≤◌, ◌%◌, ℕ, Bool, true, false, not, ltb, eqb, cond, nat_lt, nat_le, List, [], ◌∷◌, ◌++◌, length, Option, Some, None, is_some, refl, arith, ltb-true}
 use Rattle.std.specs.Prelude.{IfSome, ⊤, ◌&&◌, option_map, find}
 use Rattle.std.proofs.lemmas.Bool.Decides.{nat_tests}
@@ -24,7 +24,7 @@ use Rattle.rerun_spec.proofs.Lists.{every-at, every-set, every-append}
 use Rattle.rerun_spec.proofs.Words.{IsWord, register-word}
 use Rattle.rerun_spec.proofs.Effects.{IsEffect, wakes-effect, answers-effect, blocks-effect, either-effect, lock-effect, trylock-effect, unlock-effect, sem_wait-effect, sem_trywait-effect, posted-effect, sem_init-effect, barrier_init-effect, comes-effect, at_cell-effect, checked-effect, cond_wait-effect, leave-effect, rdlock-effect, wrlock-effect, rwunlock-effect, trywrlock-effect}
 
--- a call whose arguments that are kept are words
+-- a call that keeps only words of its arguments
 abbrev pub IsCall : Call → Type 0
 IsCall (Create pc argument) = IsWord pc × IsWord argument
 IsCall (ThreadExit v) = IsWord v
@@ -37,9 +37,9 @@ HasValue c = IfSome c.value IsWord
 abbrev pub AreMembers : List Member → Type 0
 AreMembers members = AllByRecursion HasValue members
 
--- threads
+-- the table of threads
 
--- what a row of the threads does
+-- a row of the table of threads
 abbrev OnThreads : Type 0
 OnThreads = Effect × List Member
 
@@ -160,7 +160,7 @@ act-effect readable o t (RwUnlock r) is all =
 act-effect readable o t (TryWrLock r) is all =
     at_cell-effect (length o.threads) unheld (trywrlock_row t) o.rwlocks r (trywrlock-effect (length o.threads) t)
 
--- a call that is refused out of its range
+-- a call that is refused if its arguments are out of range
 checked-members :
     (b : Bool) (o : Objects) (r : Effect × Objects) → AreMembers o.threads → AreMembers r.1.threads
     → AreMembers (checked b o r).1.threads

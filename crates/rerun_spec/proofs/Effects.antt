@@ -15,25 +15,25 @@ use Rattle.guest_call.specs.RwLocks.{RwLock, holds, is_held, reads, handed_on, l
 use Rattle.guest_call.specs.Objects.{Objects, on_pair, condition_at, leave}
 use Rattle.rerun_spec.proofs.Words.{IsWord}
 
--- a fate that leaves words
+-- a fate whose answer is a word
 abbrev pub IsFate : Fate → Type 0
 IsFate (Returns a0 a1) = IsWord a0 × IfSome a1 IsWord
 IsFate Blocks = ⊤
 IsFate (Ends v) = IsWord v
 IsFate (Exits code) = ⊤
 
--- where a thread is created beside so many, there are fewer than 32, and its pc and argument are words
+-- if a thread is created beside these, they are fewer than 32, and its pc and argument are words
 abbrev pub CreatesBeside : ℕ → Option (ℕ × ℕ) → Type 0
 CreatesBeside threads None = ⊤
 CreatesBeside threads (Some c) = (threads < 32) × IsWord c.0 × IsWord c.1
 
--- an effect of words, where there are so many threads
+-- an effect of words, if there are this many threads
 pub record IsEffect (threads : ℕ) (e : Effect) : Type 0 where
   pub fate : IsFate e.fate
   pub reported : IfSome e.reported IsWord
   pub created : CreatesBeside threads e.created
 
--- effects without more
+-- effects that do nothing else
 
 pub wakes-effect : (n : ℕ) (f : Fate) (threads : List ℕ) → IsFate f → IsEffect n (wakes f threads)
 wakes-effect n f threads is = record { fate = is; reported = tt; created = tt }
@@ -44,7 +44,7 @@ answers-effect n a word = record { fate = (word, tt); reported = tt; created = t
 pub blocks-effect : (n : ℕ) → IsEffect n blocks
 blocks-effect n = record { fate = tt; reported = tt; created = tt }
 
--- what is done in either case
+-- an effect in either case
 pub either-effect :
     {C : Type 0} (n : ℕ) (b : Bool) (x y : Effect × C)
     → IsEffect n x.0 → IsEffect n y.0 → IsEffect n (cond b x y).0
@@ -137,7 +137,7 @@ pub checked-effect :
 checked-effect n b state done is =
     either-effect n b done (answers answer_einval, state) is (answers-effect n answer_einval (omega arith))
 
--- what a row of a condition and a mutex does
+-- a row of a condition and a mutex
 abbrev OnPair : Type 0
 OnPair = Effect × Condition × Mutex
 

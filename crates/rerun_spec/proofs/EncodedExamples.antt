@@ -1,5 +1,5 @@
--- The smallest rounds that can be had, by which the definitions are tried: their starts are of bytes, and what they
--- leave can be encoded.
+-- The smallest rounds, by which the definitions are tried: their starts are of bytes, and their histories can be
+-- encoded.
 use Rattle.std.proofs.Common.{◌≡◌, ℕ, true, ltb, List, [], ◌∷◌, Some, None, refl, arith, ltb-true}
 use Rattle.std.proofs.lemmas.Bool.{and_parts}
 use Rattle.std.specs.List.{list_all}
@@ -25,7 +25,7 @@ tested-bytes (b ∷ bytes) h =
 hi-bytes : AreBytes hi_elf
 hi-bytes = tested-bytes hi_elf refl
 
--- a round with no history to go by
+-- a round without a history to be based on
 pub first-start : IsEncodedStart None shortest
 first-start =
     record {
@@ -39,7 +39,7 @@ first-start =
 abbrev first-entries : List Entry
 first-entries = (lone_round shortest None).schedule
 
--- what it leaves
+-- its history
 abbrev pub first-left : History
 first-left = history_of (round_by shortest None first-entries)
 
@@ -47,7 +47,7 @@ pub first-encoded : IsEncodable first-left
 first-encoded =
     round-encoded shortest None (events_in first-entries) first-start (entries-end shortest None shortest-setup)
 
--- the same program on another input and with another fuel, by what the first round left
+-- the same program on another input and with another fuel, based on the first round's history
 abbrev pub longer : Setup
 longer = record { elf = hi_elf; input = 255 ∷ []; fuel = 2; limit = 1 }
 

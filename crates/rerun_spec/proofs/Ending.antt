@@ -1,4 +1,4 @@
--- Each round that workers made has an end and has made a step; and each is of its setup, whatever it goes by.
+-- Each round that workers made has an end and has made a step; and each is of its setup, whatever it is based on.
 use Rattle.std.proofs.Common.{◌≡◌, ◌≢◌, ℕ, Bool, true, false, cond, List, [], ◌∷◌, ◌++◌, slice_index_or, All, Option, Some, None, is_some, refl, ap, sym, ◌∙◌}
 use Rattle.std.specs.List.{AllByRecursion}
 use Rattle.std.proofs.lemmas.List.Elements.{All-from_recursion}
@@ -34,12 +34,12 @@ round-stops workers r is = is.ended
 pub round-stands : (workers : ℕ) (r : Round) → IsMade workers r → (made r).schedule ≡ r.found.entries
 round-stands workers r is = is.stands
 
--- what is left is of the schedule that was found
+-- the history is of the schedule that was found
 pub left-found :
     (workers : ℕ) (r : Round) → IsSetup r.setup → IsMade workers r → schedule_of (left_by r) ≡ schedule_in r
 left-found workers r valid is = (round-counts r valid).threads ∙ ap threads_of is.stands
 
--- it executes again no more than it must
+-- the round executes no more steps than it must
 pub round-least : (workers : ℕ) (r : Round) → IsSetup r.setup → IsMade workers r → ReexecutesLeast (made r)
 round-least workers r valid is =
     reexecutes-made workers r.setup r.past r.found.entries r.found.worker_steps valid is
@@ -132,7 +132,7 @@ valid-made-holds P holds b inputs found workers valid short made = λ k d below.
 pub left-own : (r : Round) → (left_by r).setup ≡ r.setup
 left-own r = made-setup r
 
--- what is left is of the same program
+-- its history is of the same program
 program-left :
     (b : Beginning) (input : List ℕ) (f : Found) → IsSameProgram (left_by (round_on b input f)).setup b.setup
 program-left b input f =
@@ -153,7 +153,7 @@ same-program b inputs found =
     All-from_recursion (λ r. IsSameProgram (left_by r).setup b.setup) (rounds_after b inputs found)
     (program-each b inputs found)
 
--- so each round goes by a history of its program
+-- so each round is based on a history of its program
 other-input :
     (past : Option History) (s : Setup) (input : List ℕ)
     → IsOfProgram past s → IsOfProgram past (with_input s input)

@@ -37,7 +37,7 @@ use Rattle.rerun_spec.proofs.Beginning.{first-words}
 abbrev AreRecords : Frame → List Record → Type 0
 AreRecords f rs = AllByRecursion (IsRecord f.map f.fuel) rs
 
--- a record that can be encoded where the fuel is its count or more
+-- a record that can be encoded if the fuel is its count or more
 abbrev IsRecordOfSome : List Mapped → Record → Type 0
 IsRecordOfSome map r = IsRecord map r.kept.count r
 
@@ -64,8 +64,8 @@ under-some :
 under-some map fuel [] all = tt
 under-some map fuel (r ∷ rs) all = (under map fuel r.kept.count r all.0 (omega arith), under-some map fuel rs all.1)
 
--- what holds of a round in this frame and with this limit: its machine is one of words and bytes; the records that it
--- goes by can be encoded under some fuel, and its own under the frame's; and where there is an end, it has a record
+-- what holds of a round in this frame and with this limit: its machine has words and bytes; the records that it is
+-- based on can be encoded under some fuel, and its own under the frame's; and if there is an end, it has a record
 record IsEncoded (f : Frame) (limit : ℕ) (w : RoundState) : Type 0 where
   pub frame : w.machine.frame ≡ f
   pub same_limit : w.machine.limit ≡ limit
@@ -80,7 +80,7 @@ either-encoded :
 either-encoded f limit true v w left right = left
 either-encoded f limit false v w left right = right
 
--- only who is in flight, the count of discarded steps and the stop differ
+-- only the threads in flight, the count of discarded steps and the stop differ
 taken-encoded : (f : Frame) (limit : ℕ) (w : RoundState) (t : ℕ) → IsEncoded f limit w → IsEncoded f limit (taken w t)
 taken-encoded f limit w t s =
     record {
@@ -115,7 +115,7 @@ stop-encoded f limit w s =
       some_records = s.some_records;
     }
 
--- one record more
+-- one more record
 more-some : (rs : List Record) (r : Record) → 1 ≤ length (rs ++ r ∷ [])
 more-some rs r = simp length-append (omega arith)
 
@@ -266,7 +266,7 @@ round-encoded setup past es start ended =
           subst (λ (x : Setup). AreRecords (frame_of x) (round_after setup past es).records) same s.records;
     }
 
--- and the next round of the same program may go by it
+-- and the next round of the same program may be based on it
 pub round-next :
     (setup edited : Setup) (past : Option History) (es : List Event)
     → IsEncodedStart past setup → is_some (round_after setup past es).machine.ending ≡ true

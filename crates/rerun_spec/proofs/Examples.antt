@@ -82,12 +82,12 @@ half_byte (Size size) encoded = other_word (codes "set 4 0") refl (sym encoded.1
 half_byte_is_bad : (edit : IsEdit (codes "set 4 0")) → ⊥
 half_byte_is_bad edit = half_byte edit.0 edit.1
 
--- The first list is refused by its first line, where the second would be refused, too.
+-- The first list is refused by its first line, even if the second would be refused, too.
 pub refused-first : IsFirstRefused five (codes "set 4 0" ∷ codes "set 5 00" ∷ []) 0 (BadLine 1)
 unfolding lines
 refused-first = inl (half_byte_is_bad, refl)
 
--- Round 0 goes by nothing, and round 1 by what round 0 leaves.
+-- Round 0 is based on no history, and round 1 on that of round 0.
 pub rounds-two :
     (s : Setup) (asked : Asked) (a b : List ℕ) (f g : Found)
     → rounds_after (from_scratch s asked) (a ∷ b ∷ []) (f ∷ g ∷ [])
@@ -102,8 +102,8 @@ pub rounds-two :
     ∷ []
 rounds-two s asked a b f g = refl
 
--- After a memo, round 1 goes by its history, and round 2 by what round 1 leaves; both have the limits that are asked
--- for.
+-- After a memo, round 1 is based on its history, and round 2 on that of round 1; both have the limits that are
+-- requested.
 pub reruns-two :
     (h : History) (limits : Limits) (asked : Asked) (a b : List ℕ) (f g : Found)
     → rounds_after (after_memo h limits asked) (a ∷ b ∷ []) (f ∷ g ∷ [])
@@ -120,14 +120,14 @@ pub reruns-two :
     ∷ []
 reruns-two h limits asked a b f g = refl
 
--- Where one thing was found so far, there is one round, whatever inputs are to come.
+-- If one thing was found so far, there is one round, whatever inputs are to come.
 pub rounds-one_of_two :
     (s : Setup) (asked : Asked) (a b : List ℕ) (f : Found)
     → rounds_after (from_scratch s asked) (a ∷ b ∷ []) (f ∷ [])
     ≡ record { number = 0; setup = with_input s a; past = None; asked = asked; found = f } ∷ []
 rounds-one_of_two s asked a b f = refl
 
--- The last of them leaves what round 2 does; and with no round the memo's history is left.
+-- Its history is the last one; and without a round the memo's history is.
 pub left-two :
     (h : History) (limits : Limits) (asked : Asked) (a b : List ℕ) (f g : Found)
     → last_left (after_memo h limits asked) (a ∷ b ∷ []) (f ∷ g ∷ [])
@@ -145,7 +145,7 @@ left-two h limits asked a b f g = refl
 pub left-none : (h : History) (limits : Limits) (asked : Asked) (found : List Found) → last_left (after_memo h limits asked) [] found ≡ h
 left-none h limits asked found = refl
 
--- From scratch and with no round a history of no steps is left.
+-- From scratch and without a round, it is a history of no steps.
 pub left-scratch :
     (s : Setup) (asked : Asked) (found : List Found) → last_left (from_scratch s asked) [] found ≡ record { setup = s; records = [] }
 left-scratch s asked found = refl
@@ -158,7 +158,7 @@ pub repeated-third :
     (round_on (after_rounds (from_scratch s asked) (a ∷ b ∷ []) (f ∷ g ∷ [])) b k)
 repeated-third s asked a b f g k = record { place = 1; one = refl; next = refl; same = refl }
 
--- A rerun with a list is on what the list makes alone, and one without is on the input itself.
+-- A rerun with a list is on the input that the list makes, and one without is on the input itself.
 pub rerun-emptied : AreRerunInputs five (codes "size 0" ∷ []) ([] ∷ [])
 rerun-emptied = (record { edits = record { line = 1; edit = Size 0 } ∷ []; said = empty_is_said; done = refl }, tt)
 

@@ -1,9 +1,9 @@
--- Rounds that are made one after the other: as more is found, they go on.
+-- Rounds that are made one after the other: as more is found, there are more.
 use Rattle.std.proofs.Common.{◌≡◌, ◌≢◌, ◌≤◌, ◌+◌, ℕ, zero, suc, min, List, [], ◌∷◌, ◌++◌, length, drop, slice_get, Some, None, refl, ap, ◌∙◌, arith}
 use Rattle.std.proofs.lemmas.Option.{same_Some}
 use Rattle.rerun_spec.specs.Rounds.{Found, Round, left_by, Beginning, round_on, after_round, rounds_after, after_rounds, history_at, last_left}
 
--- where nothing was found there is no round
+-- if nothing was found, there is no round
 pub none-found : (b : Beginning) (inputs : List (List ℕ)) → rounds_after b inputs [] ≡ []
 none-found b [] = refl
 none-found b (input ∷ inputs) = refl
@@ -31,7 +31,7 @@ after-later b [] (f ∷ found) more = refl
 after-later b (input ∷ inputs) [] more = refl
 after-later b (input ∷ inputs) (f ∷ found) more = after-later (after_round b input f) inputs found more
 
--- the input that comes next is the first of those that are left
+-- the next input is the first of the remaining ones
 next-input :
     (inputs : List (List ℕ)) (place : ℕ) (input : List ℕ) → slice_get inputs place ≡ Some input
     → drop place inputs ≡ input ∷ drop (suc place) inputs
@@ -70,7 +70,7 @@ pub last-one :
     → last_left b inputs (found ++ f ∷ []) ≡ left_by (round_on (after_rounds b inputs found) input f)
 last-one b inputs found input f is = ap (λ (c : Beginning). history_at c) (after-one b inputs found input f is)
 
--- rounds of what was found need no later inputs
+-- rounds for which something was found need no later inputs
 pub rounds-few :
     (b : Beginning) (inputs rest : List (List ℕ)) (found : List Found) → length found ≤ length inputs
     → rounds_after b (inputs ++ rest) found ≡ rounds_after b inputs found
@@ -90,7 +90,7 @@ after-few b (input ∷ inputs) rest [] few = refl
 after-few b (input ∷ inputs) rest (f ∷ found) few =
     after-few (after_round b input f) inputs rest found (omega arith)
 
--- the number, setup, flag and past of the round that comes next
+-- the number, setup, flag and history of the next round
 pub number-later :
     (b : Beginning) (inputs : List (List ℕ)) (found : List Found)
     → (after_rounds b inputs found).number ≡ b.number + min (length inputs) (length found)
@@ -111,7 +111,7 @@ asked-later b [] found = refl
 asked-later b (input ∷ inputs) [] = refl
 asked-later b (input ∷ inputs) (f ∷ found) = asked-later (after_round b input f) inputs found
 
--- after a round there is a history, which the last round left
+-- after a round there is a history, that of the last round
 pub past-later :
     (b : Beginning) (inputs : List (List ℕ)) (found : List Found) → inputs ≢ [] → found ≢ []
     → (after_rounds b inputs found).past ≡ Some (last_left b inputs found)

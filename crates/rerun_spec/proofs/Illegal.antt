@@ -1,4 +1,4 @@
--- A thunk that ended by an illegal instruction stands at a word that no row of the table has, so at none of M.
+-- A thunk that ended by an illegal instruction ended at a word that no row of the table has, so at none of M.
 use Rattle.std.proofs.Common.{◌≡◌, ℕ, ◌%◌, ◌<◌, zero, suc, Bool, true, false, eqb, cond, List, [], ◌∷◌, ◌++◌, Option, Some, None, is_some, refl, arith}
 use Rattle.std.specs.Prelude.{option_map}
 use Rattle.std.proofs.lemmas.Bool.{eqb-true}
@@ -187,7 +187,7 @@ with_stores-append :
 with_stores-append map memory [] ys = refl
 with_stores-append map memory (x ∷ xs) ys = with_stores-append map (with_byte map memory x) xs ys
 
--- where a thunk leaves its registers and stores, an illegal instruction stands
+-- the registers and stores of a thunk end at an illegal instruction
 abbrev Stands : List Mapped → Memory → Thunk → Type 0
 Stands map memory t = StandsAtIllegal map (with_stores map memory t.stores) t.regs
 
@@ -215,7 +215,7 @@ turns-stand map (suc fuel) memory r h =
     followed-stands (turn map memory r).outcome map memory (turn map memory r) (turns map fuel)
     (λ ill. last-stands map memory r (turn map memory r) (turn-illegal map memory r ill)) (turns-stand map fuel) h
 
--- a thunk that ended by an illegal instruction stands at it
+-- a thunk that ended by an illegal instruction ended at it
 pub thunk-stands :
     (f : Frame) (view : Memory) (r : Registers)
     → is_illegal (thunk f view r).end ≡ true

@@ -1,5 +1,5 @@
--- The inputs are there, or a list is the first that is refused, and not both; each is as short as an input may be. So
--- it is for the inputs of a rerun.
+-- The inputs exist, or a list is the first that is refused, and not both; each is as short as an input may be. The same
+-- holds for the inputs of a rerun.
 use Rattle.std.proofs.Common.{◌≡◌, ◌≢◌, ◌≤◌, ◌<◌, ℕ, zero, suc, max, List, [], ◌∷◌, ◌++◌, slice_get, Some, length, Result, Ok, Err, ◌⊎◌, inl, inr, refl, ap, sym, ◌∙◌, subst, arith}
 use Rattle.std.proofs.lemmas.Option.{same_Some}
 use Rattle.std.proofs.lemmas.List.Elements.{All-from_recursion}
@@ -12,7 +12,7 @@ use Rattle.edit_spec.proofs.Lengths.{stays_short}
 use Rattle.rerun_spec.specs.Inputs.{Makes, AreMade, AreInputs, AreRerunInputs, AreShort, Refusal, BadLine, OutOfRange, Refuses, IsFirstRefused}
 use Rattle.edit_spec.proofs.Deciding.{lines-say}
 
--- two answers of one list
+-- two answers on one list
 same-edits : (list : List ℕ) (a b : List LineEdit) → Says list (Ok a) → Says list (Ok b) → a ≡ b
 same-edits list a b p q = let same = one_thing (lines list) (Ok a) (Ok b) p q in cc
 
@@ -22,7 +22,7 @@ same-line list m n p q = let same = one_thing (lines list) (Err m) (Err n) p q i
 not-both : (list : List ℕ) (a : List LineEdit) (n : ℕ) → Says list (Ok a) → Says list (Err n) → ⊥
 not-both list a n p q = let same = one_thing (lines list) (Ok a) (Err n) p q in cc
 
--- two answers of one edit
+-- two answers on one edit
 ok-one : (r : Result (List ℕ) ℕ) (a b : List ℕ) → r ≡ Ok a → r ≡ Ok b → a ≡ b
 ok-one r a b p q = cc
 
@@ -72,7 +72,7 @@ makes-or-refuses list input = by (lines-say (lines list)).0 (lines-say (lines li
     by (Ok edits) said = does edits said (edited edits input) refl
     by (Err number) said = inr (BadLine number, said)
 
--- so do lists
+-- lists make one thing
 made-one :
     (lists : List (List ℕ)) (input : List ℕ) (a b : List (List ℕ)) → AreMade input lists a → AreMade input lists b
     → a ≡ b
@@ -200,14 +200,14 @@ inputs-short input lists [] short p = tt
 inputs-short input lists (x ∷ inputs) short p =
     (subst (λ (i : List ℕ). length i ≤ longest_input) (sym p.0) short, made-short lists input inputs short p.1)
 
--- the same, as the laws of rounds ask for it
+-- the same, as the laws of rounds state it
 pub inputs-are-short :
     (input : List ℕ) (lists inputs : List (List ℕ))
     → length input ≤ longest_input → AreInputs input lists inputs → AreShort inputs
 inputs-are-short input lists inputs short are =
     All-from_recursion (λ i. length i ≤ longest_input) inputs (inputs-short input lists inputs short are)
 
--- one list more
+-- one more list
 made-more :
     (lists : List (List ℕ)) (input : List ℕ) (inputs : List (List ℕ)) (current list next : List ℕ)
     → AreMade input lists inputs → slice_get (input ∷ inputs) (length lists) ≡ Some current → Makes list current next

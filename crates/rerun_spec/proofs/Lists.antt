@@ -1,9 +1,9 @@
--- What holds of each element of a list, as lists are read and changed.
+-- What holds of each element of a list, when lists are read and changed.
 use Rattle.std.proofs.Common.{ℕ, zero, suc, List, [], ◌∷◌, ◌++◌, get_or, set, map, replicate, ◌<◌, length, arith}
 use Rattle.memory_spec.specs.Pages.{Mapped, on_each}
 use Rattle.std.specs.List.{AllByRecursion}
 
--- what stands at a place, where it holds of what stands for no element
+-- an element at any place, if the property holds of the stand-in for no element
 pub every-at :
     {X : Type 0} (P : X → Type 0) (xs : List X) (i : ℕ) (d : X)
     → P d → AllByRecursion P xs → P (get_or xs i d)
@@ -11,7 +11,7 @@ every-at P [] i d none all = none
 every-at P (x ∷ xs) zero d none all = all.0
 every-at P (x ∷ xs) (suc i) d none all = every-at P xs i d none all.1
 
--- what stands at a place that is there
+-- the element at a place below the length
 pub every-below :
     {X : Type 0} (P : X → Type 0) (xs : List X) (i : ℕ) (d : X)
     → i < length xs → AllByRecursion P xs → P (get_or xs i d)
@@ -27,7 +27,7 @@ every-set P [] i v new all = tt
 every-set P (x ∷ xs) zero v new all = (new, all.1)
 every-set P (x ∷ xs) (suc i) v new all = (all.0, every-set P xs i v new all.1)
 
--- after a change of the element at a place, which needn't be there
+-- after a change of the element at a place, which needn't exist
 pub every-changed :
     {X : Type 0} (P : X → Type 0) (f : X → X) (xs : List X) (i : ℕ) (d : X)
     → ((x : X) → P x → P (f x)) → AllByRecursion P xs → AllByRecursion P (set xs i (f (get_or xs i d)))
@@ -56,7 +56,7 @@ pub every-map :
 every-map P f [] holds = tt
 every-map P f (x ∷ xs) holds = (holds x, every-map P f xs holds)
 
--- what two things together make
+-- what follows from two properties of each element
 pub every-both :
     {X : Type 0} (P Q R : X → Type 0) (xs : List X)
     → ((x : X) → P x → Q x → R x) → AllByRecursion P xs → AllByRecursion Q xs → AllByRecursion R xs

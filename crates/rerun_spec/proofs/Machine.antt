@@ -135,7 +135,7 @@ settled-harts e memory t hs words bytes all =
     (every-changed IsHart (fated e.fate memory) hs t nobody
     (λ h is. fated-hart e.fate memory h words.fate bytes is) all))
 
--- what a thunk asks for has words
+-- what a thunk requests has words
 abbrev AsksWords : Asked → Type 0
 AsksWords (Asks call) = IsCall call
 AsksWords (Stops e) = ⊤

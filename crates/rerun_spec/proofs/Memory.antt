@@ -106,7 +106,7 @@ number_at-small map memory address size all =
     number_in-small (page_of memory (slot_of map address)) (address % 4096) size
     (page-bytes memory (slot_of map address) all)
 
--- what an access finds, where it is let
+-- what an access finds, if it is permitted
 abbrev pub FindsSmall : Size → Option ℕ → Type 0
 FindsSmall size (Some value) = value < number_limit size
 FindsSmall size None = Unit {0}

@@ -1,4 +1,4 @@
--- A round on the input of the round before it, or on input and limits of the memo that it goes by, reuses every step.
+-- A round on the input of the round before it, or on the input and limits of its memo, reuses every step.
 use Rattle.std.proofs.Common.{◌≡◌, ◌≢◌, ℕ, suc, List, [], ◌∷◌, All, Option, Some, None, ap, sym, ◌∙◌, subst}
 use Rattle.std.proofs.lemmas.Option.{same_Some}
 use Rattle.machine_spec.specs.Limits.{Limits}
@@ -21,7 +21,7 @@ use Rattle.rerun_spec.specs.Inputs.{AreShort}
 use Rattle.rerun_spec.specs.Rounds.{limits_of, with_input, with_limits, Found, Round, made, IsMade, left_by, Beginning, after_memo, CanBegin, round_on, rounds_after, schedule_in, entries_of, machine_of, IsRepeated, IsUneditedRerun}
 use Rattle.rerun_spec.proofs.Rounds.{IsSoundlyMade, round-honest, left-setup, left-schedule, each-round, IsNext, next-after, at-place}
 
--- a round goes by an honest history, on its very setup
+-- a round that is based on an honest history, with that history's setup
 pub record IsAgain (h : History) (r : Round) : Type 0 where
   pub honest : IsHonest h
   pub past : r.past ≡ Some h
@@ -84,7 +84,7 @@ rerun-again h limits asked (input ∷ inputs) (f ∷ found) r honest rerun =
     rerun-round h limits asked r input f (same_Some (round_on (after_memo h limits asked) input f) r rerun.first) rerun.same_input
     rerun.same_limits honest
 
--- what holds of the history's own setup holds of the round
+-- what holds of the history's own setup holds of the round's
 carried :
     (C : Setup → Option History → Type 0) (h : History) (r : Round)
     → IsAgain h r → C h.setup (Some h) → C r.setup r.past
@@ -92,7 +92,7 @@ carried C h r again holds =
     subst (λ (p : Option History). C r.setup p) (sym again.past)
     (subst (λ (s : Setup). C s (Some h)) again.setup holds)
 
--- its workers made it by that history
+-- its workers made it, based on that history
 again-unedited : (h : History) (r : Round) → IsAgain h r → IsUnedited h r.setup
 again-unedited h r again = record { honest = again.honest; same = again.setup }
 
@@ -109,7 +109,7 @@ again-schedule workers h r again is =
     workers-threads workers h r.setup r.found.entries r.found.worker_steps (again-unedited h r again)
     (again-made workers h r again is)
 
--- its round is all reuse of the history
+-- the round only reuses the history
 pub again-reuses : (workers : ℕ) (h : History) (r : Round) → IsAgain h r → IsMade workers r → OnlyReuses h (made r)
 again-reuses workers h r again is =
     subst (λ (p : Option History). OnlyReuses h (round_by r.setup p r.found.entries)) (sym again.past)

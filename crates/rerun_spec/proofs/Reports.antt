@@ -1,5 +1,5 @@
 -- Without lists of edits there is one report, that of a run from scratch; reports and workers' steps count right; and
--- what is told of a round as it was made is its report.
+-- what is reported of a round as it was made is its report.
 use Rattle.std.proofs.Common.{◌≡◌, ℕ, min, Bool, true, false, ◌&&◌, List, [], ◌∷◌, ◌++◌, length, map, drop, slice_get, sum, All, Option, Some, None, refl, ap, sym, ◌∙◌, arith}
 use Rattle.std.specs.List.{AllByRecursion, list_all}
 use Rattle.std.proofs.lemmas.List.{length-map, map-append}
@@ -26,13 +26,13 @@ use Rattle.rerun_spec.proofs.Inputs.{only-input}
 use Rattle.rerun_spec.proofs.Rounds.{IsSoundlyMade, each-made, each-round, count-after, scratch-begins, round-threads, round-entries, round-machine, round-alone}
 use Rattle.rerun_spec.proofs.Going.{rounds-later, rounds-one}
 
--- with no history nothing is reused
+-- without a history nothing is reused
 pub marks-nothing : (m : Machine) (ts : List ℕ) → marked_from None m ts ≡ all_executed ts
 marks-nothing m [] = refl
 marks-nothing m (t ∷ ts) =
     ap (λ (es : List Entry). record { thread = t; reused = false } ∷ es) (marks-nothing (step m t) ts)
 
--- the one round where there is no list
+-- the one round if there is no list
 only-round :
     (b : Beginning) (inputs : List (List ℕ)) (f : Found) → AreInputs b.setup.input [] inputs
     → rounds_after b inputs (f ∷ []) ≡ round_on b b.setup.input f ∷ []
@@ -131,7 +131,7 @@ alone-exits setup asked inputs f valid are made =
     only-exits setup asked inputs f are
     ∙ ap (λ (ts : List ℕ). is_exit (scratch setup ts).ending) (only-alone setup asked inputs f valid are made).threads
 
--- without lists a rerun is one round, without an edit where its limits are the memo's
+-- without lists a rerun is one round, without an edit if its limits are the memo's
 pub only-rerun :
     (h : History) (limits : Limits) (asked : Asked) (inputs : List (List ℕ)) (f : Found) → AreRerunInputs h.setup.input [] inputs
     → rounds_after (after_memo h limits asked) inputs (f ∷ [])
@@ -184,13 +184,13 @@ pub round-instructions :
 round-instructions workers r is =
     instructions-made workers r is ∙ ap (instructions_from (first r.setup)) (round-entries workers r is)
 
--- what is told only if it is asked for is told by the round's own setup and history
+-- what is reported only on request depends on the round's own setup and history
 extras-made : (r : Round) → made_extras r ≡ extras_in r
 extras-made r =
     ap (λ (p : Option History). extras_of r.asked p (made r).setup r.found.progress) (round-past r.setup r.past (events_in r.found.entries))
     ∙ ap (λ (s : Setup). extras_of r.asked r.past s r.found.progress) (round-setup r.setup r.past (events_in r.found.entries))
 
--- what was made is told as the machine from scratch is, under the same schedule
+-- what was made is reported as the machine from scratch is, under the same schedule
 reported-made :
     (workers : ℕ) (r : Round) → IsSoundlyMade workers r
     → data_as_made (made r) (made_extras r) r.found.worker_steps ≡ data_of r.setup (made r).schedule (extras_in r) r.found.worker_steps
@@ -242,7 +242,7 @@ pub exit-made : (workers : ℕ) (r : Round) → IsSoundlyMade workers r → made
 exit-made workers r is =
     ap (λ (m : Machine). is_exit m.ending) (round-machine workers r is ∙ ap (scratch r.setup) (round-threads r))
 
--- so it is for all rounds that were made soundly
+-- the same holds of all rounds that were soundly made
 all-reports-made :
     (workers : ℕ) (rounds : List Round) → AllByRecursion (IsSoundlyMade workers) rounds
     → map made_report rounds ≡ map report_of rounds
@@ -275,7 +275,7 @@ unfolding all_made_exit all_exit
 exits-made b inputs found workers can short made =
     all-exits-made workers (rounds_after b inputs found) (each-round b inputs found workers can short made)
 
--- rounds that are told one after the other
+-- rounds that are reported one after the other
 pub made-later :
     (b : Beginning) (inputs : List (List ℕ)) (found more : List Found)
     → made_reports (rounds_after b inputs (found ++ more))

@@ -22,12 +22,12 @@ use Rattle.rerun_spec.specs.declared.Asked.{Asked}
 use Rattle.rerun_spec.specs.Inputs.{AreInputs, AreShort}
 use Rattle.rerun_spec.specs.Rounds.{with_input, with_limits, Found, Round, made, IsMade, IsPickedRightly, left_by, Beginning, from_scratch, after_memo, CanBegin, round_on, after_round, rounds_after, after_rounds, last_left, schedule_in, entries_of, machine_of}
 
--- a round that its workers made by a history that its setup can go by
+-- a round that its workers made, based on a history that it can be based on
 pub record IsSoundlyMade (workers : ℕ) (r : Round) : Type 0 where
   pub can : CanGoBy r.past r.setup
   pub made : IsMade workers r
 
--- a setup with another short input may be run, where it may be
+-- a setup with another short input may be run, if it may be
 pub with-short : (s : Setup) (input : List ℕ) → IsSetup s → length input ≤ longest_input → IsSetup (with_input s input)
 with-short s input valid short =
     record {
@@ -53,7 +53,7 @@ round-honest workers r is = workers-honest workers r.setup r.past r.found.entrie
 pub left-setup : (workers : ℕ) (r : Round) → IsSoundlyMade workers r → (left_by r).setup ≡ r.setup
 left-setup workers r is = ap (λ (w : RoundState). w.setup) (round-made workers r is)
 
--- the first round of a beginning can go by its history, and so can what comes after it
+-- the first round of a beginning can be based on its history, and each round that follows on its own
 first-can :
     (b : Beginning) (input : List ℕ) (f : Found) → CanBegin b → length input ≤ longest_input
     → CanGoBy (round_on b input f).past (round_on b input f).setup
@@ -80,7 +80,7 @@ EachShort inputs = AllByRecursion (λ i. length i ≤ longest_input) inputs
 pub each-short : (inputs : List (List ℕ)) → AreShort inputs → EachShort inputs
 each-short inputs short = recursion_from_All (λ i. length i ≤ longest_input) inputs short
 
--- so many workers made each of some rounds
+-- this many workers made each of some rounds
 abbrev pub EachMade : ℕ → List Round → Type 0
 EachMade workers rounds = AllByRecursion (IsMade workers) rounds
 
@@ -131,7 +131,7 @@ later-round b inputs found workers can short made =
     later-after b inputs found workers can (each-short inputs short)
     (each-made workers (rounds_after b inputs found) made)
 
--- what holds of every round that was made soundly
+-- what holds of every round that was soundly made
 pub each-holds :
     (P : Round → Type 0) → ((workers : ℕ) (r : Round) → IsSoundlyMade workers r → P r)
     → (b : Beginning) (inputs : List (List ℕ)) (found : List Found) (workers : ℕ)
@@ -142,7 +142,7 @@ each-holds P holds b inputs found workers can short made = λ k d below.
     (All-from_recursion (IsSoundlyMade workers) (rounds_after b inputs found)
     (each-round b inputs found workers can short made) k d below)
 
--- a setup with other limits in range may be run, where it may be
+-- a setup with other limits in range may be run, if it may be
 pub with-limits :
     (s : Setup) (limits : Limits) → IsSetup s → AreLimits limits.fuel limits.steps → IsSetup (with_limits s limits)
 with-limits s limits valid within =
@@ -153,7 +153,7 @@ with-limits s limits valid within =
       limits = within;
     }
 
--- what a beginning from scratch, and one after a memo, need
+-- what beginnings from scratch and after a memo require
 pub scratch-begins : (s : Setup) (asked : Asked) → IsSetup s → CanBegin (from_scratch s asked)
 scratch-begins s asked valid = record { valid = valid; sound = tt }
 
@@ -166,7 +166,7 @@ memo-begins h limits asked honest within =
       sound = (honest, refl);
     }
 
--- what the last one leaves is honest
+-- the last one's history is honest
 honest-after :
     (b : Beginning) (input : List ℕ) (inputs : List (List ℕ)) (f : Found) (found : List Found) (workers : ℕ)
     → CanBegin b → EachShort (input ∷ inputs) → EachMade workers (rounds_after b (input ∷ inputs) (f ∷ found))
@@ -189,7 +189,7 @@ last-honest b (input ∷ inputs) (f ∷ found) workers can short made some one =
     honest-after b input inputs f found workers can (each-short (input ∷ inputs) short)
     (each-made workers (rounds_after b (input ∷ inputs) (f ∷ found)) made)
 
--- what a round that was made soundly is
+-- the parts of a round that was soundly made
 pub round-threads : (r : Round) → threads_of (entries_of r) ≡ schedule_in r
 round-threads r = marked-threads r.past (first r.setup) (schedule_in r)
 
@@ -262,12 +262,12 @@ alone-holds P holds b inputs found can short made = λ k d below.
     (All-from_recursion (IsSoundlyMade 1) (rounds_after b inputs found)
     (each-round b inputs found 1 can short made) k d below)
 
--- however many workers there are, they can make the rounds as one worker makes them
+-- any number of workers can make the rounds as one worker makes them
 zeros-sum : (n a : ℕ) → fold (λ (s : ℕ) (x : ℕ). s + x) a (replicate n 0) ≡ a
 zeros-sum zero a = refl
 zeros-sum (suc n) a = let rest = zeros-sum n (a + 0) in omega arith
 
--- the steps of each worker where the first of the workers makes all steps
+-- the steps of each worker if the first of the workers makes all steps
 abbrev worker_steps_of_first : ℕ → ℕ → List ℕ
 worker_steps_of_first workers steps = steps ∷ replicate (workers - 1) 0
 
@@ -316,7 +316,7 @@ some-made b inputs workers valid short some =
     let is = some-after b inputs workers valid (each-short inputs short) some in
     (is.0, is.1, All-from_recursion (IsMade workers) (rounds_after b inputs is.0) is.2)
 
--- numbers, setups, what was found, and which lines are asked for
+-- numbers, setups, what was found, and which lines are requested
 pub numbers-after :
     (b : Beginning) (inputs : List (List ℕ)) (found : List Found)
     → map (λ (r : Round). r.number) (rounds_after b inputs found)
@@ -439,7 +439,7 @@ next-after b (x ∷ y ∷ inputs) (f ∷ g ∷ found) zero before after one next
 next-after b (x ∷ inputs) (f ∷ found) (suc place) before after one next =
     next-after (after_round b x f) inputs found place before after one next
 
--- a fact of each element holds of the one at a place
+-- what holds of each element holds of the one at a place
 pub at-place :
     {A : Type 0} (P : A → Type 0) (xs : List A) (place : ℕ) (x : A) → AllByRecursion P xs → slice_get xs place ≡ Some x
     → P x

@@ -1,4 +1,4 @@
--- What a record tells of a byte, stored or read, is the byte that its thunk left there.
+-- What a record determines of a byte, stored or read, is that byte after its thunk.
 use Rattle.std.proofs.Common.{◌≡◌, ℕ, ◌+◌, ◌*◌, ◌/◌, ◌%◌, ◌^◌, ◌<◌, zero, suc, Bool, true, false, eqb, cond, List, [], ◌∷◌, Option, Some, None, length, take, get_or, refl, ap, sym, subst, ◌∙◌, arith}
 use Rattle.std.specs.Prelude.{⊤, slice_get}
 use Rattle.std.proofs.lemmas.Bool.{eqb-true}
@@ -16,7 +16,7 @@ use Rattle.thunk_spec.specs.Reads.{reads_from, reads_of}
 use Rattle.thunk_spec.proofs.Merging.{merged, merged_all, Shaped, shaped-with_stores, shaped-fresh, merged_all-with_stores, merged_all-no_marks}
 use Rattle.memo_spec.specs.Old.{stored_byte, read_byte, first_there, whole_word}
 
--- a byte or a word that is told, if one is
+-- a byte or a word that is determined, if one is
 abbrev pub Tells : Option ℕ → ℕ → Type 0
 Tells None n = ⊤
 Tells (Some reported) n = reported ≡ n
@@ -49,7 +49,7 @@ unmarked (true ∷ mask) i none = cc
 unmarked (false ∷ mask) zero none = refl
 unmarked (false ∷ mask) (suc i) none = unmarked mask i none
 
--- the byte at a place of a page, where it is marked
+-- the byte at a place of a page, if it is marked
 abbrev marked_byte : List Bool → List ℕ → ℕ → Option ℕ
 marked_byte mask page i = cond (get_or mask i false) (Some (get_or page i 0)) None
 
@@ -67,7 +67,7 @@ marked-chosen mask page i same = here (get_or mask i false) refl
     here true at = chosen-at mask page i same at
     here false at = refl
 
--- deltas of later slots tell nothing of an earlier one
+-- deltas of later slots determine nothing of an earlier one
 stored-before :
     (ms : Masks) (ns : Memory) (k slot i : ℕ) → slot < k → stored_byte (delta_from k ms ns) slot i ≡ None
 stored-before [] ns k slot i before = refl
@@ -82,7 +82,7 @@ stored-before (m ∷ ms) (n ∷ ns) k slot i before =
     slot i ≡ None)
     [ true ↦ rw other later | false ↦ later ]
 
--- what is stored at a place is what the marks tell there
+-- the stored byte at a place is the one that the marks determine there
 stored-at :
     (os ns : Memory) (ms : Masks) (k j slot i : ℕ) → Shaped os ns ms → slot ≡ k + j
     → stored_byte (delta_from k ms ns) slot i ≡ marked_byte (mask_of ms j) (page_of ns j) i
@@ -169,7 +169,7 @@ first-tells :
 first-tells true new old read tells = refl
 first-tells false new old read tells = tells
 
--- the stored bytes over the read ones tell what the stores leave on the view
+-- the stored bytes over the read ones determine the bytes of the view after the stores
 pub with_stores-tells :
     (map : List Mapped) (view : Memory) (stores : List StoredByte) (taken : List ℕ) (slot i : ℕ)
     → IsMemory map view
@@ -214,7 +214,7 @@ next-byte map memory a k aligned below =
     let place : (a + k) % 4096 ≡ a % 4096 + k = omega arith in
     rw (slot-same map (a + k) a page, place) refl
 
--- what tells each byte of an aligned word tells the word
+-- what determines each byte of an aligned word determines the word
 pub word-tells :
     (map : List Mapped) (memory : Memory) (a : ℕ) (reported : ℕ → Option ℕ)
     → a % 4 ≡ 0 → ((address : ℕ) → Tells (reported address) (byte_at map memory address))

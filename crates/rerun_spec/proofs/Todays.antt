@@ -30,7 +30,7 @@ tells-none : (o : Option ℕ) (w : ℕ) → Tells o w → is_of_m w ≡ false �
 tells-none None w reported other = refl
 tells-none (Some n) w reported other = ap is_of_m reported ∙ other
 
--- a record tells of an aligned word what its thunk left there
+-- a record determines an aligned word as it is after its thunk
 kept-word :
     (f : Frame) (view : Memory) (r : Registers) (a : ℕ) → IsMemory f.map view → a % 4 ≡ 0
     → Tells (known_word f.map (kept_thunk f view r) a)
@@ -92,7 +92,7 @@ honest-todays h honest =
     (sym (first-map h.setup))
     ∙ records-todays (first h.setup) (schedule_of h) (IsWhole-first h.setup honest.valid) honest.permitted
 
--- and its memo is read as it
+-- and its memo is read as that history
 pub honest-read : (h : History) → IsHonest h → IsEncodable h → reading (memo h) ≡ Ok h
 honest-read h honest fit =
     encoded_is_read (memo h) h (memo_taken h fit (honest-coherent h honest))

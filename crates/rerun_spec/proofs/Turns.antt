@@ -35,7 +35,7 @@ IsOutcome outcome.Next = ⊤
 IsOutcome outcome.Call = ⊤
 IsOutcome (outcome.Trap cause) = number_of cause < 8
 
--- a turn leaves registers, and stores bytes
+-- a turn whose registers stay registers, and which stores bytes
 pub record IsTurn (t : Turn) : Type 0 where
   pub outcome : IsOutcome t.outcome
   pub regs : AreRegisters t.regs
@@ -184,7 +184,7 @@ turn-fits map memory r bytes regs =
 
 -- thunks
 
--- a thunk of some turns at the most, with an end that a record may have, leaves registers and stores bytes
+-- a thunk within a number of turns, with an end that a record may have, whose registers stay registers
 pub record IsThunk (fuel : ℕ) (t : Thunk) : Type 0 where
   pub end : IsEnd t.end
   pub some_turns : 1 ≤ fuel → 1 ≤ t.count

@@ -1,4 +1,4 @@
--- Under the lock nothing is begun but what is picked.
+-- Under the lock, no step is started but a picked one.
 use Rattle.std.proofs.Common.{◌≡◌, ℕ, suc, Bool, true, false, Option, Some, refl, ap, sym, ◌∙◌, subst}
 use Rattle.std.proofs.lemmas.Bool.{eq-eqb}
 use Rattle.machine_spec.specs.Setup.{Setup, IsSetup}
@@ -50,7 +50,7 @@ follows_opening setup past w is =
           (subst (λ (s : Setup). IsReplaying h (opening s (Some h))) repeats.same (replays-start h));
     })
 
--- an event by which a round may go on after its pick
+-- an event by which a round may continue after its pick
 on :
     (setup : Setup) (past : Option History) (w v : RoundState) (e : Event)
     → IsUnder setup past w → goes_on_by (pick_of w) e ≡ true → v ≡ happens w e → FollowsPicks setup past v
@@ -130,7 +130,7 @@ follows-given_up setup past w v t under is =
     follows-stop setup past (happens w (GiveBack t)) v
     (on-under setup past w (GiveBack t) under (give_back-goes (pick_of w) t)) is
 
--- and without an edit no step is begun
+-- and without an edit no step is started
 pub never-begins :
     (setup : Setup) (past : Option History) (w : RoundState) (t : ℕ) (h : History)
     → FollowsPicks setup past w → pick_of w ≡ pick.Run t → past ≡ Some h → IsUnedited h setup → ⊥
@@ -144,7 +144,7 @@ never-begins setup past w t h follows picked past_is unedited = by (is_finished 
         replays-next h w unedited.honest.valid repeats.coherent (follows.replays h past_is repeats) is in
         let both : pick.Reuse next.0 ≡ pick.Run t = sym next.1.picked ∙ picked in cc
 
--- one record more was reused
+-- one more record was reused
 pub settled-more :
     (n t : ℕ) (w v u : RoundState)
     → v ≡ settled n w → pick_of v ≡ pick.Reuse t → u ≡ happens v (Reuse t) → u ≡ settled (suc n) w

@@ -99,7 +99,7 @@ event-stays w (Commit t) none kept = commit-stays w t (is_in_flight w t) (is_fin
 event-stays w (GiveBack t) none kept = give_back-stays w t (is_in_flight w t)
 event-stays w Stop none kept = λ u in_flight. (in_flight, refl)
 
--- A job of a machine is one of another where its thread has the same hart.
+-- A job of a machine is one of another if its thread has the same hart.
 job-stays :
     (m n : Machine) (t : ℕ) (job : Job) → n.frame ≡ m.frame → hart_of n t ≡ hart_of m t → IsJobOf m t job
     → IsJobOf n t job
@@ -150,7 +150,7 @@ issued-given_up book w v t tickets kept is issued =
     issued-stop book (happens w (GiveBack t)) v tickets (happens-kept w (GiveBack t) kept) is
     (issued-give_back book w (happens w (GiveBack t)) t tickets kept refl issued)
 
--- Nobody is in flight at the start.
+-- No thread is in flight at the start.
 pub issued_opening :
     (book : Book) (w : RoundState) (setup : Setup) (past : Option History) (tickets : IssuerView)
     → w ≡ opening setup past → tickets.book ≡ book → AreIssued book w tickets

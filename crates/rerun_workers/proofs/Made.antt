@@ -26,7 +26,7 @@ alone-made workers setup past w worker_steps is valid each steps =
     subst (λ (x : RoundState). IsMadeBy workers setup past x.schedule worker_steps) (sym is)
     (lone-made workers setup past worker_steps valid each (steps ∙ ap (λ (x : RoundState). length x.schedule) is))
 
--- and that of several, where it has an end
+-- and that of several, if it has an end
 pub together-made :
     (workers : ℕ) (setup : Setup) (past : Option History) (w : RoundState) (worker_steps : List ℕ)
     → 1 < workers → w.setup ≡ setup → w.past ≡ past → IsBySchedule w → is_some w.machine.ending ≡ true
@@ -39,7 +39,7 @@ together-made workers setup past w worker_steps many is_setup is_past stands end
     (ended-made workers w worker_steps many stands ended each steps
     (λ h by unedited. follows.replays h by (unedited-repeats h w.setup unedited)) follows.picked))
 
--- what is picked so far was picked rightly, entry by entry
+-- the picks so far were chosen by the rule, entry by entry
 pub entries-picked :
     (setup : Setup) (past : Option History) (w : RoundState)
     → w.setup ≡ setup → w.past ≡ past → FollowsPicks setup past w
@@ -95,7 +95,7 @@ by-several workers setup past w worker_steps turns compared many valid closed st
           (unedited-repeats h w.setup (subst (IsUnedited h) (sym is_setup) unedited))) ended;
     }
 
--- a round that was opened is of its setup, and goes by its history, also when it is closed
+-- a round that was opened is of its setup, and is based on its history, also when it is closed
 pub closed-opening :
     (w : RoundState) (worker_steps : List ℕ) (turns compared : ℕ) (setup : Setup) (past : Option History) (first : RoundState)
     → first ≡ opening setup past → IsClosed first.setup first.past w worker_steps turns compared
@@ -103,7 +103,7 @@ pub closed-opening :
 closed-opening w worker_steps turns compared setup past first is by =
     subst (λ (x : RoundState). IsClosed x.setup x.past w worker_steps turns compared) is by
 
--- the steps of each worker where the first made all
+-- the steps of each worker if the first made all
 
 pub first-each :
     (workers steps : ℕ) (worker_steps : List ℕ) → 1 ≤ workers → worker_steps ≡ steps ∷ replicate (workers - 1) 0 → length worker_steps ≡ workers
@@ -130,7 +130,7 @@ pub first-sum : (workers steps : ℕ) (worker_steps : List ℕ) → worker_steps
 first-sum workers steps worker_steps is =
     let rest = zeros-sum (workers - 1) (0 + steps) in ap sum is ∙ omega arith
 
--- what a round cost that one worker made, beside turns that were made before
+-- the cost of a round that one worker made, beside turns that were made before
 pub cost-first :
     (workers spent turns : ℕ) (s : Setup) (before : Option History) (w : RoundState) (worker_steps : List ℕ)
     → IsRoundBy workers s before w worker_steps → turns ≡ spent + executed_by w
@@ -146,7 +146,7 @@ cost-first workers spent turns s before w worker_steps by rise one none =
           omega (arith, rise, zero, executed);
     }
 
--- and one that several made together
+-- and of one that several made together
 pub cost-several :
     (workers turns compared : ℕ) (s : Setup) (before : Option History) (w : RoundState) (worker_steps : List ℕ)
     → 1 < workers → IsClosed s before w worker_steps turns compared → IsCostOf workers s before w turns
@@ -156,7 +156,7 @@ cost-several workers turns compared s before w worker_steps many closed =
       idle = closed.idle;
     }
 
--- the number of all steps alone is the progress of a round
+-- a single number, that of all steps, is the progress of a round
 pub only-last : (workers steps : ℕ) → IsProgress workers steps (steps ∷ [])
 only-last workers steps =
     record {

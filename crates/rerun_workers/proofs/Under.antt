@@ -9,7 +9,7 @@ use Rattle.rerun_workers.specs.Watching.{IsCounting}
 same-length : (w v : RoundState) → Continues 0 w v → length v.schedule ≡ length w.schedule
 same-length w v on = let same = on.entries in omega (arith, same)
 
--- no entry came to it
+-- no entry was added
 pub counted_on : (w v : RoundState) (total : ℕ) → Continues 0 w v → length w.schedule ≡ total → length v.schedule ≡ total
 counted_on w v total on counted = same-length w v on ∙ counted
 
@@ -19,7 +19,7 @@ pub watched_on :
 watched_on w v table counter on watched =
     subst (λ (n : ℕ). IsCounting table n counter) (sym (same-length w v on)) watched
 
--- one entry more did, and was counted
+-- one more entry was added, and was counted
 pub counted_more :
     (w v : RoundState) (total more : ℕ)
     → Continues 1 w v → more ≡ total + 1 → length w.schedule ≡ total → length v.schedule ≡ more

@@ -1,4 +1,4 @@
--- Who is in flight keeps the hart that it had, and so the step that was taken stays its next one.
+-- A thread in flight keeps its hart, so the step that was taken stays its next one.
 use Rattle.std.proofs.Common.{◌≡◌, ◌≢◌, ◌<◌, ◌+◌, ℕ, zero, suc, Bool, true, false, ◌||◌, cond, List, [], ◌∷◌, drop, get_or, set, length, Option, Some, None, is_some, is_none, Result, Ok, Err, OnOk, OnErr, refl, ap, sym, ◌∙◌, subst, inl, inr, arith}
 use Rattle.std.proofs.lemmas.Bool.{cases_eq, and_parts}
 use Rattle.std.proofs.lemmas.List.{get_or-set_same, get_or-set_other, length-set}
@@ -34,7 +34,7 @@ use Rattle.propagate.specs.Executing.{executed_by}
 use Rattle.propagate.proofs.Keeping.{record_count}
 use Rattle.propagate.proofs.Executing.{run-record, in_flight-commits, commit-counts}
 
--- who is in flight after an event that takes nobody was in flight before, with the same hart, in the same frame
+-- a thread in flight after an event that takes none was in flight before, with the same hart, in the same frame
 record Stays (w v : RoundState) (u : ℕ) : Type 0 where
   pub in_flight : is_in_flight w u ≡ true
   pub hart : hart_of v.machine u ≡ hart_of w.machine u
@@ -107,7 +107,7 @@ reuse-stay w t true kept is =
     reused-stay w t (record_for w.past w.machine t) kept refl
     (can_begin-parts w t (and_parts (can_begin w t) (fits_next w.past w.machine t) is).0)
 
--- whether an event takes nobody
+-- whether an event takes no thread
 abbrev pub TakesNobody : Event → Type 0
 TakesNobody (Take t) = ⊥
 TakesNobody (Reuse t) = Unit {0}
@@ -149,7 +149,7 @@ stays-held w v jobs stay have = record {
       held-stays w.machine v.machine u (get_or jobs u None) s.hart s.frame (have.held u s.in_flight);
 }
 
--- the jobs stay those of who is in flight
+-- the jobs stay those of the threads in flight
 pub jobs-stay :
     (w v : RoundState) (e : Event) (jobs : List (Option Job)) → TakesNobody e → IsInOrder w → v ≡ happens w e
     → HaveJobs w jobs
@@ -158,7 +158,7 @@ jobs-stay w v e jobs nobody kept is have =
     subst (λ (x : RoundState). HaveJobs x jobs) (sym is)
     (stays-held w (happens w e) jobs (happens-stay w e nobody kept) have)
 
--- and with the job of one that is taken
+-- and with the job of the thread that is taken
 pub jobs-take :
     (w v : RoundState) (t : ℕ) (jobs : List (Option Job)) (job : Job)
     → can_take w t ≡ true → IsInOrder w → v ≡ happens w (Take t) → IsJobOf w.machine t job → HaveJobs w jobs
@@ -184,7 +184,7 @@ jobs-take w v t jobs job can kept is own have =
       ];
     })
 
--- whatever comes of a reuse or of a commit
+-- whether or not a reuse or a commit happens
 pub jobs-reuse :
     (w v : RoundState) (t : ℕ) (jobs : List (Option Job)) (result : Result (Unit {0}) AllocError)
     → IsInOrder w → OnOk result (v ≡ happens w (Reuse t)) → OnErr result (v ≡ w) → HaveJobs w jobs → HaveJobs v jobs
@@ -200,7 +200,7 @@ jobs-commit w v run jobs (Stale back) kept does have =
     jobs-stay w v (GiveBack (arc_value run.rec).thread) jobs tt kept does.2 have
 jobs-commit w v run jobs (Memory back) kept does have = subst (λ (x : RoundState). HaveJobs x jobs) (sym does.2) have
 
--- at the start nobody is in flight
+-- at the start no thread is in flight
 pub jobs-none : (w : RoundState) (jobs : List (Option Job)) → length jobs ≡ 32 → w.in_flight ≡ none_in_flight → HaveJobs w jobs
 jobs-none w jobs count nobody = record {
   count = count;
@@ -226,7 +226,7 @@ job-held w jobs t k o job kept have in_flight same at is =
     let flags = kept.flags in let count = have.count in omega arith in
     (have.held t in_flight).own job (ap (λ i. get_or jobs i None) (sym same) ∙ held-at jobs k o below at ∙ is)
 
--- what running the job gave can be committed, while the round isn't finished
+-- the result of running the job can be committed, as long as the round isn't finished
 pub run-commits :
     (w : RoundState) (t : ℕ) (job : Job) (run : Run)
     → IsInOrder w → is_in_flight w t ≡ true → is_finished w ≡ false → IsJobOf w.machine t job → IsRunOf job run
@@ -246,7 +246,7 @@ run-counts w v t job run kept counted in_flight going own ran is =
     commit-counts w v t (arc_value run.rec) (record_count w counted)
     (in_flight-commits w t (arc_value run.rec) kept in_flight going same) is same
 
--- after the round is finished, to commit is to discard
+-- after the round is finished, committing is discarding
 pub over-discards :
     (w : RoundState) (t : ℕ) → is_in_flight w t ≡ true → is_finished w ≡ true
     → happens w (GiveBack t) ≡ happens w (Commit t)

@@ -1,4 +1,4 @@
--- Where no first difference is, none is at all.
+-- If there is no first difference, there is none at all.
 use Rattle.std.proofs.Common.{◌≡◌, ◌+◌, ◌<◌, ◌==◌, ℕ, Bool, true, false, not, cond, List, [], ◌∷◌, length, set, get_or, All, Some, None, refl, ap, sym, ◌∙◌, subst, arith}
 use Rattle.std.specs.List.{position_from, zip}
 use Rattle.std.specs.Str.{bytes_eq}
@@ -78,7 +78,7 @@ same-registers a b long_a long_b zero_a zero_b none =
     whole r s pc x =
         ap (λ (n : ℕ). record { pc = n; x = r.x }) pc ∙ ap (λ (xs : List ℕ). record { pc = s.pc; x = xs }) x
 
--- a view that has no other page has all
+-- a view without another page has all
 pub no-other-page :
     (view : Memory) (reads : List ReadPage) → first_other_page view reads ≡ None → has view reads ≡ true
 no-other-page view [] none = refl
@@ -96,7 +96,7 @@ no-other-page view (p ∷ reads) none =
         sym (ap (λ (b : Bool). cond (not b) (Some p) (first_other_page view reads)) is) ∙ none in
         cc no
 
--- the first other page is among the read pages, and its bytes are others
+-- the first other page is among the read pages, and its bytes differ
 pub other-page :
     (view : Memory) (reads : List ReadPage) (p : ReadPage) (n : ℕ) → first_other_page view reads ≡ Some p
     → All (λ (q : ReadPage). q.slot < n) reads
@@ -122,7 +122,7 @@ other-page view (q ∷ reads) p n is all =
           subst (λ (r : ReadPage). r.slot < n) same (All-head (λ (r : ReadPage). r.slot < n) q reads all),
         )
 
--- pages of one length that are others have a difference
+-- pages of one length that differ have a difference
 pub other-bytes :
     (now was : List ℕ) → length now ≡ length was → bytes_eq now was ≡ false → first_difference now was ≡ None → ⊥
 other-bytes now was count other none =

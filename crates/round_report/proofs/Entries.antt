@@ -1,4 +1,4 @@
--- Each entry of a round was made on the machine of the entries before it.
+-- Each entry of a round was made on the machine after the entries before it.
 use Rattle.std.proofs.Common.{◌≡◌, ◌+◌, ◌≤◌, ℕ, zero, suc, Bool, true, false, not, cond, List, [], ◌∷◌, ◌++◌, append_assoc, append-nil, length, length-append, take, drop, slice_get, Option, Some, None, refl, ap, sym, ◌∙◌, subst, arith}
 use Rattle.std.proofs.lemmas.List.{take-append-drop, length-map}
 use Rattle.std.proofs.lemmas.Bool.{and_parts}
@@ -95,7 +95,7 @@ length-entries w (e ∷ es) =
 
 -- ## one entry
 
--- one entry was made after others, on the machine v, and leaves w
+-- one entry was made after others, on the machine of v, and w is the round after it
 pub record WasMade (v w : RoundState) (e : Entry) (es : List Entry) : Type 0 where
   pub before : v.schedule ≡ es
   pub can : can_step v.machine e.thread ≡ true
@@ -112,7 +112,7 @@ none-made es schedule e long made =
     let both = length-append es (e ∷ []) in
     omega arith
 
--- so much stands before the last
+-- lists that are the same with a last element are the same without it
 last-off : (xs ys : List Entry) (a b : Entry) → xs ++ a ∷ [] ≡ ys ++ b ∷ [] → xs ≡ ys
 last-off [] [] a b e = refl
 last-off [] (y ∷ ys) a b e = absurd (none-made ys [] b (omega arith) (let rest : [] ≡ ys ++ b ∷ [] = cc in rest))
@@ -238,7 +238,7 @@ made-entry v e es inside whole long made = by e.reused refl
 abbrev pub IsMadeWhole : Setup → Option History → List Entry → Type 0
 IsMadeWhole setup past es = (round_by setup past es).schedule ≡ es
 
--- the last entry was made on the machine of the others
+-- the last entry was made on the machine after the others
 pub made-last :
     (setup : Setup) (past : Option History) (es : List Entry) (e : Entry) → IsSetup setup
     → IsMadeWhole setup past (es ++ e ∷ [])
@@ -261,7 +261,7 @@ made-front setup past es (b ∷ back) valid made =
     (made-front setup past (es ++ b ∷ []) back valid
     (subst (IsMadeWhole setup past) (sym (append_assoc es (b ∷ []) back)) made))).before
 
--- records are put behind those that are there
+-- records are appended
 abbrev GrowsBy : RoundState → RoundState → Type 0
 GrowsBy w v = (rest : List Record) × (v.records ≡ w.records ++ rest)
 
@@ -303,7 +303,7 @@ records-more w (e ∷ es) =
 
 -- ## entry i of a round
 
--- a list around one of its things
+-- a list around one of its elements
 around :
     (es : List Entry) (i : ℕ) (e : Entry) → slice_get es i ≡ Some e → es ≡ take i es ++ e ∷ drop (suc i) es
 around [] i e there = cc
@@ -344,7 +344,7 @@ length-records setup past es valid made =
     ∙ length-map (round_by setup past es).schedule (λ (e : Entry). e.thread)
     ∙ ap length made
 
--- a thing that stands behind others, in the middle
+-- an element after a front is at the place of its length
 at-seam : (xs : List Record) (x : Record) (ys : List Record) → slice_get ((xs ++ x ∷ []) ++ ys) (length xs) ≡ Some x
 at-seam [] x ys = refl
 at-seam (y ∷ xs) x ys = at-seam xs x ys
@@ -352,7 +352,7 @@ at-seam (y ∷ xs) x ys = at-seam xs x ys
 same-some : (a b : Record) → Some a ≡ Some b → a ≡ b
 same-some a b e = cc
 
--- entry i was made on the machine of those before it
+-- entry i was made on the machine after those before it
 abbrev WasMadeAt : RoundState → ℕ → Entry → Type 0
 WasMadeAt w i e =
     WasMade (round_by w.setup w.past (take i w.schedule)) (round_by w.setup w.past (take i w.schedule ++ e ∷ [])) e
@@ -378,7 +378,7 @@ pub entry-can :
     → can_step (made_before w i) e.thread ≡ true
 entry-can w i e valid by there = (was-made w i e valid by there).can
 
--- where it was executed, no record fitted
+-- if it was executed, no record fitted
 pub entry-unfit :
     (w : RoundState) (i : ℕ) (e : Entry) → IsSetup w.setup → IsBySchedule w → slice_get w.schedule i ≡ Some e
     → e.reused ≡ false
@@ -388,7 +388,7 @@ entry-unfit w i e valid by there executed =
     (sym (round-past w.setup w.past (events_in (take i w.schedule))))
     ∙ (was-made w i e valid by there).unfit executed
 
--- its record is of its thread, and applied it leads on
+-- its record is of its thread, and applying it makes the next machine
 pub record IsRecordOf (w : RoundState) (i : ℕ) (e : Entry) (r : Record) : Type 0 where
   pub thread : r.thread ≡ e.thread
   pub applied : apply (made_before w i) r ≡ made_before w (suc i)
@@ -439,7 +439,7 @@ entry-record w i e r valid by there there_r =
         ∙ ap (λ (k : ℕ). slice_get (((round_by w.setup w.past front).records ++ made.rec ∷ []) ++ more.0) k) (sym place)
         ∙ at-seam (round_by w.setup w.past front).records made.rec more.0)
 
--- the machine before an entry has the round's map and fuel, and holds together
+-- the machine before an entry has the round's map and fuel, and is whole
 all_happen-frame : (w : RoundState) (es : List Event) → (all_happen w es).machine.frame ≡ w.machine.frame
 all_happen-frame w [] = refl
 all_happen-frame w (e ∷ es) = all_happen-frame (happens w e) es ∙ happens-frame w e
@@ -452,7 +452,7 @@ pub made-frame : (w : RoundState) (i : ℕ) → (made_before w i).frame ≡ reco
 made-frame w i =
     all_happen-frame (opening w.setup w.past) (events_in (take i w.schedule)) ∙ first-frame w.setup
 
--- by a sound history it is the machine from scratch
+-- if the history is sound, it is the machine from scratch
 pub made-scratch :
     (w : RoundState) (i : ℕ) → IsSetup w.setup → IsBySchedule w → IsSound w.past w.setup
     → made_before w i ≡ scratch_before w i

@@ -1,4 +1,4 @@
--- What a record that is found in a history is, and that it fits where nothing differs.
+-- What a record that is found in a history is, and that it fits if nothing differs.
 use Rattle.std.proofs.Common.{◌≡◌, ◌<◌, ◌==◌, ◌&&◌, ℕ, Bool, true, false, cond, List, [], ◌∷◌, ◌++◌, length, All, find, Option, Some, None, IfSome, IfNone, is_none, refl, ap, sym, ◌∙◌, subst, arith}
 use Rattle.std.proofs.lemmas.Bool.{and_parts, eqb-true, eq-eqb}
 use Rattle.std.proofs.lemmas.Bool.Decides.{nat_tests}
@@ -17,7 +17,7 @@ use Rattle.history_spec.proofs.Applying.{apply-frame}
 use Rattle.round_spec.specs.Marks.{record_for, is_fitting, fits_next}
 use Rattle.round_report.specs.Reasons.{IsOldRun, IsBasedOnOldRun}
 
--- what is found passes the test, and has what all have
+-- a found record passes the test, and has what all have
 find-passes :
     (p : Record → Bool) (P : Record → Type 0) (rs : List Record) (r : Record) → find p rs ≡ Some r → All P rs
     → (p r ≡ true) × P r
@@ -63,7 +63,7 @@ found-mapped h setup t number r mapped old there =
     (map_of-program h.setup setup old.program)
     (find-passes (is_of t number) (IsMappedIn (length (map_of h.setup))) h.records r there mapped).1.reads
 
--- its thunk may have ended as it did, under the fuel of a history that holds together
+-- its thunk may have ended as it did, under the fuel of a coherent history
 within-head : (m : Machine) (r : Record) → fits m r ≡ true → may_end m.frame.fuel r.kept.end r.kept.count ≡ true
 unfolding fits fits_at
 within-head m r fit = grind (arith, nat_tests)
@@ -104,7 +104,7 @@ found-within (Some h) setup t number r old there =
     (within (is_of t number) (first h.setup) h.records r
     (and_parts (can_apply_from (first h.setup) h.records) _ old.coherent).0 there)
 
--- where registers and read pages are the record's, it fits
+-- if registers and read pages are the record's, it fits
 fits-whole :
     (m : Machine) (t : ℕ) (r : Record) → r.thread ≡ t → r.number ≡ (hart_of m t).number
     → is_ready (hart_of m t).status ≡ true → same_registers r.start (hart_of m t).regs ≡ true
@@ -127,7 +127,7 @@ fits-anyway past setup m t r old fuel ready there regs reads =
     (found-within past setup t (hart_of m t).number r old there) in
     ap (is_fitting m) there ∙ fits-whole m t r of.0 of.1 ready regs reads ended
 
--- what holds of an answer, case by case
+-- what holds of an option, case by case
 pub if_some : {A : Type 0} (P : A → Type 0) (o : Option A) → ((a : A) → o ≡ Some a → P a) → IfSome o P
 if_some P None each = tt
 if_some P (Some a) each = each a refl
@@ -140,7 +140,7 @@ pub none_gives : {A : Type 0} (P : Type 0) (o : Option A) → o ≡ None → IfN
 none_gives P None is has = has
 none_gives P (Some a) is has = cc is
 
--- the same of the history that a round goes by
+-- the same of the history that a round is based on
 pub past-mapped :
     (past : Option History) (setup : Setup) (t number : ℕ) (r : Record)
     → ((h : History) → past ≡ Some h → IsMapped h) → found past t number ≡ Some r → IsBasedOnOldRun past setup

@@ -22,7 +22,7 @@ reported_so_far w i = filter_map (λ k. reason_of (made_before w) w k (slice_get
 abbrev pub executed_so_far : RoundState → ℕ → List ℕ
 executed_so_far w i = filter (λ k. is_executed (slice_get w.schedule k)) (range_with_len 0 i)
 
--- one number more
+-- one more number
 range-more : (a n : ℕ) → range_with_len a (suc n) ≡ range_with_len a n ++ (a + n) ∷ []
 range-more a zero = ap (λ (k : ℕ). k ∷ []) (let same : a ≡ a + 0 = omega arith in same)
 range-more a (suc n) =
@@ -35,12 +35,12 @@ range-next i =
     ap (range_with_len 0) (add-one i) ∙ range-more 0 i
     ∙ ap (λ (k : ℕ). range_with_len 0 i ++ k ∷ []) (let same : 0 + i ≡ i = omega arith in same)
 
--- what one place gives
+-- the reason at one place
 one-reported : (h : ℕ → Option Reason) (i : ℕ) (o : Option Reason) → h i ≡ o → filter_map h (i ∷ []) ≡ option_to_list o
 one-reported h i None is = ap (λ (o : Option Reason). cons_option o []) is
 one-reported h i (Some r) is = ap (λ (o : Option Reason). cons_option o []) is
 
--- one entry more
+-- one more entry
 pub reported-next :
     (w : RoundState) (i : ℕ) (reasons later : List Reason) (o : Option Reason)
     → reasons ≡ reported_so_far w i → later ≡ reasons ++ option_to_list o
@@ -54,11 +54,11 @@ reported-next w i reasons later o is pushed reason =
     ∙ sym (filter_map-append (λ k. reason_of (made_before w) w k (slice_get w.schedule k)) (range_with_len 0 i) (i ∷ []))
     ∙ ap (filter_map (λ k. reason_of (made_before w) w k (slice_get w.schedule k))) (sym (range-next i))
 
--- reasons that are the same are of one step
+-- equal reasons are of one step
 same-step : (a b : Reason) → Some a ≡ Some b → a.step ≡ b.step
 same-step a b is = let same : a ≡ b = cc in ap (λ (x : Reason). x.step) same
 
--- none is no reason
+-- no reason is equal to none
 no-reason : (r : Reason) (i : ℕ) → Some r ≡ None → r.step ≡ i
 no-reason r i is = cc
 
@@ -111,7 +111,7 @@ pub all-reported : (w : RoundState) (reasons : List Reason) → reasons ≡ repo
 unfolding reasons_of
 all-reported w reasons is = is
 
--- by a sound history they are those of the machine from scratch
+-- if the history is sound, they are those of the machine from scratch
 same-machines : (f g : ℕ → Machine) → ((k : ℕ) → f k ≡ g k) → f ≡ g
 same-machines f g each = λ i. λ k. each k i
 

@@ -1,10 +1,10 @@
--- A search of more entries tells of fewer.
+-- What a search of more entries finds determines what a search of fewer finds.
 use Rattle.std.proofs.Common.{◌≡◌, ◌<◌, ◌≤◌, ℕ, zero, suc, Bool, true, false, cond, List, Some, None, slice_get, refl, ap, sym, ◌∙◌, subst, inl, inr, arith}
 use Rattle.std.proofs.lemmas.Bool.{cases_lt}
 use Rattle.thunk_spec.specs.Record.{Record}
 use Rattle.round_report.specs.Storing.{stores, last_store}
 
--- the last of the entries alone doesn't count, where another answer is looked for
+-- a search that finds nothing among some entries finds nothing among the first of them
 pub none-within :
     (records : List Record) (slot place c count : ℕ) → last_store records c slot place ≡ None → count ≤ c
     → last_store records count slot place ≡ None

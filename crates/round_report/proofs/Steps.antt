@@ -28,7 +28,7 @@ use Rattle.round_report.specs.Reasons.{made_before, cause_at, reason_of_step, re
 use Rattle.round_report.specs.Walking.{IsBefore}
 use Rattle.round_report.proofs.Entries.{IsRecordOf, entry-can, entry-unfit, made-frame}
 
--- a view was given by an entry before
+-- a view was given by an earlier entry
 view_since-le : (before : ℕ → Machine) (threads : List ℕ) (i t : ℕ) → view_since before threads i t ≤ i
 view_since-le before threads zero t = omega arith
 view_since-le before threads (suc i) t =
@@ -44,7 +44,7 @@ view_since-le before threads (suc i) t =
 pub length-addresses : (s : Setup) → length (addresses_of s) ≡ length (map_of s)
 length-addresses s = length-map (map_of s) (λ (page : Mapped). page.number * PAGE_SIZE)
 
--- what is known of an entry whose machine is there
+-- what is known of an entry on a known machine
 pub record IsKnown (w : RoundState) (m : Machine) (since : List ℕ) (i : ℕ) (addresses : List ℕ) (e : Entry) : Type 0 where
   pub there : slice_get w.schedule i ≡ Some e
   pub can : can_step m e.thread ≡ true
@@ -128,7 +128,7 @@ reason-is w m since i addresses e cause is before are executed by =
     ∙ ap (λ (n : ℕ). cause_of (addresses_of w.setup) (last_store w.records n) (hart_of m e.thread) (record_for w.past m e.thread)) (before.views e.thread is.few)
     ∙ ap (λ (x : Machine). cause_of (addresses_of w.setup) (last_store w.records (view_since (made_before w) (threads_of w.schedule) i e.thread)) (hart_of x e.thread) (record_for w.past x e.thread)) before.machine))
 
--- the reason with its parts
+-- the reason, with its parts
 pub reported-of :
     (w : RoundState) (m : Machine) (since : List ℕ) (i : ℕ) (addresses : List ℕ) (e : Entry) (number : ℕ) (cause : Cause)
     → IsKnown w m since i addresses e → IsBefore w m since i → number ≡ (hart_of m e.thread).number
@@ -138,7 +138,7 @@ reported-of w m since i addresses e number cause is before n =
     ap (λ (k : ℕ). Some (let r : Reason = record { step = i; thread = e.thread; number = k; cause = cause } in r))
     (n ∙ ap (λ (x : Machine). (hart_of x e.thread).number) before.machine)
 
--- no record fits where it was executed
+-- no record fits an executed entry
 pub unfit-known :
     (w : RoundState) (m : Machine) (since : List ℕ) (i : ℕ) (addresses : List ℕ) (e : Entry)
     → IsKnown w m since i addresses e → IsBefore w m since i → IsSetup w.setup → IsBySchedule w → e.reused ≡ false
@@ -148,7 +148,7 @@ unfit-known w m since i addresses e is before valid by executed =
 
 -- ## the next entry
 
--- the entries before the next one are those before and it
+-- the entries before the next one are those before this one, and it
 pub next-before :
     (w : RoundState) (m n : Machine) (since later : List ℕ) (i : ℕ) (e : Entry) (r : Record)
     → IsBefore w m since i → slice_get w.schedule i ≡ Some e → IsRecordOf w i e r → n ≡ apply m r

@@ -1,4 +1,4 @@
--- One entry more: the round's machine stays near the old one, whatever the step of an entry of the closed set did.
+-- One more entry: the round's machine stays near the old one, whatever the step of an entry of the closed set did.
 use Rattle.std.proofs.Common.{◌≡◌, ◌<◌, ◌+◌, ℕ, suc, Bool, true, false, ◌&&◌, eqb, List, ◌∷◌, length, get_or, Option, Some, None, is_none, refl, ap, ap₂, sym, ◌∙◌, subst, inl, inr, ◌⊎◌, arith}
 use Rattle.std.proofs.lemmas.Bool.{cases_eq}
 use Rattle.std.proofs.lemmas.Bool.Decides.{nat_tests}
@@ -42,7 +42,7 @@ use Rattle.round_spec.proofs.Along.{whole-at, frame-at, can-at, ready-at, going-
 use Rattle.round_spec.proofs.Spread.{among_steps, among-of, among-at, tainted, closed-next, spread}
 use Rattle.round_spec.proofs.Lockstep.{IsAt, IsNextStep, IsTurn}
 
--- what is asked follows from end, call number and arguments, where the run goes on
+-- what is requested follows from end, call number and arguments, if the run continues
 ask-same :
     (t : ℕ) (e : ThunkEnd) (f g : Registers)
     → (e ≡ thunk_end.Call → call_at f ≡ call_at g) → ((x : End) → asked t e f ≡ Stops x → ⊥) → asked t e f ≡ asked t e g

@@ -1,4 +1,4 @@
--- Where there is nothing to go by, the choice and the schedule of one worker are those of a run with no earlier run.
+-- Without a history, the choice and the schedule of one worker are those of a run with no earlier run.
 use Rattle.std.proofs.Common.{◌≡◌, ◌<◌, ◌+◌, ℕ, zero, suc, Bool, true, false, not, cond, ◌&&◌, eqb, ltb, List, [], ◌∷◌, length, map, filter, Option, Some, None, refl, ap, sym, ◌∙◌, arith}
 use Rattle.std.proofs.lemmas.Bool.Decides.{nat_tests}
 use Rattle.std.specs.List.{range_with_len, position_or_len}
@@ -37,7 +37,7 @@ least-zeros [] = refl
 least-zeros (x ∷ []) = refl
 least-zeros (x ∷ y ∷ xs) = let rest = least-zeros (y ∷ xs) in omega arith
 
--- where the measure is the same everywhere, all are kept
+-- if the measure is the same everywhere, all are kept
 least_by-zeros : (xs : List ℕ) → least_by (λ t. 0) xs ≡ xs
 unfolding least_by
 least_by-zeros xs = rw (least-zeros xs) (filter-all xs)
@@ -101,7 +101,7 @@ first-range f test k (h ∷ hs) at =
 zero-add : (n : ℕ) → 0 + n ≡ n
 zero-add n = omega arith
 
--- the threads that are ready, nobody being out
+-- with none in flight, the free threads are the ready ones
 free_threads-none_in_flight :
     (m : Machine)
     → free_threads m none_in_flight ≡ filter (λ t. is_ready (hart_of m t).status) (range_with_len 0 (length m.harts))
@@ -135,7 +135,7 @@ fewest m =
     (Some i) None)
     (zero-add (position_or_len (is_ready_at (least (ready_numbers m.harts))) m.harts))
 
--- with nothing to go by all are due, and none has a place
+-- without a history, all are due, and none has a place
 pub choice_by-nothing : (m : Machine) → choice_by None m none_in_flight ≡ choice m
 unfolding choice_by best is_due
 choice_by-nothing m =

@@ -35,7 +35,7 @@ events_in-more (x ∷ es) e =
     ap (λ (fs : List Event). events_of x ++ fs) (events_in-more es e)
     ∙ sym (append_assoc (events_of x) (events_in es) (events_of e))
 
--- one entry more is made after the others
+-- one more entry is made after the others
 pub round_by-more :
     (setup : Setup) (past : Option History) (es : List Entry) (e : Entry)
     → round_by setup past (es ++ e ∷ []) ≡ all_happen (round_by setup past es) (events_of e)
@@ -45,7 +45,7 @@ round_by-more setup past es e =
 
 -- flags
 
--- what was set is set back
+-- setting an element and resetting it changes nothing
 pub set-back : {A : Type 0} (xs : List A) (t : ℕ) (x none : A) → get_or xs t none ≡ none → set (set xs t x) t none ≡ xs
 set-back [] t x none is = refl
 set-back (y ∷ xs) zero x none is = ap (λ z. z ∷ xs) (sym is)
@@ -56,13 +56,13 @@ set-in_flight [] t below = absurd (omega arith)
 set-in_flight (b ∷ in_flight) zero below = refl
 set-in_flight (b ∷ in_flight) (suc t) below = set-in_flight in_flight t (omega arith)
 
--- where there is no flag, nothing is set
+-- a flag past the end isn't set
 pub set-none : (in_flight : List Bool) (t : ℕ) → is_in_flight_of (set in_flight t true) t ≡ false → set in_flight t true ≡ in_flight
 set-none [] t none = refl
 set-none (b ∷ in_flight) zero none = cc
 set-none (b ∷ in_flight) (suc t) none = ap (λ (bs : List Bool). b ∷ bs) (set-none in_flight t none)
 
--- nor where there is no length
+-- nor is a number
 set-past : (ns : List ℕ) (t n : ℕ) → length ns ≤ t → set ns t n ≡ ns
 set-past [] t n past = refl
 set-past (m ∷ ns) zero n past = absurd (omega arith)
@@ -75,7 +75,7 @@ in_flight-past in_flight t none =
       | inr past ↦ past
     ]
 
--- who is in flight has a flag
+-- a thread that is in flight has a flag
 pub in_flight-below : (in_flight : List Bool) (t : ℕ) → is_in_flight_of in_flight t ≡ true → t < length in_flight
 in_flight-below [] t is = cc
 in_flight-below (b ∷ in_flight) zero is = omega arith
@@ -85,9 +85,9 @@ none-some : (e : Option End) → is_none e ≡ true → is_some e ≡ false
 none-some (Some e) none = cc
 none-some None none = refl
 
--- between its entries a round that is made entry by entry has nobody in flight, wasn't stopped, and has discarded
--- nothing; and
--- each thread was picked when its turn came
+-- between its entries, a round that is made entry by entry has no thread in flight,
+-- wasn't stopped, and has discarded nothing;
+-- and each thread was picked when its entry was made
 pub record IsInside (w : RoundState) : Type 0 where
   pub picked : w.picked ≡ range_with_len 0 (length w.schedule)
   pub in_flight : w.in_flight ≡ none_in_flight
@@ -118,7 +118,7 @@ picked-more picked xs x n picked_is is =
 pub inside-none : (w : RoundState) (t : ℕ) → IsInside w → is_in_flight w t ≡ false
 inside-none w t inside = ap (λ (in_flight : List Bool). is_in_flight_of in_flight t) inside.in_flight ∙ none_in_flight-none t
 
--- where a step can be begun, it isn't finished
+-- if a step can be started, the round isn't finished
 pub inside-over : (w : RoundState) (t : ℕ) → IsInside w → can_begin w t ≡ true → is_finished w ≡ false
 inside-over w t inside can =
     let begins : CanBegin w t = can_begin-parts w t can in
@@ -144,7 +144,7 @@ inside-reuse w t inside = by (can_reuse w t)
     by true = inside-reused w t (record_for w.past w.machine t) inside
     by false = inside
 
--- a thread that has no flag is taken in vain
+-- taking a thread without a flag changes nothing
 pub taken-none : (w : RoundState) (t : ℕ) → IsInside w → is_in_flight (taken w t) t ≡ false → taken w t ≡ w
 taken-none w t inside is =
     let flags : length w.in_flight ≡ 32 = ap (λ (in_flight : List Bool). length in_flight) inside.in_flight ∙ none_in_flight-length in
@@ -164,7 +164,7 @@ taken-now w t inside is =
     let lengths : length w.taken_at ≡ 32 = ap (λ (ns : List ℕ). length ns) inside.taken_at ∙ nothing_taken-length in
     get_or-set_same w.taken_at t (length w.schedule) 0 (omega arith)
 
--- a thread that was taken is committed, where there is a flag for it
+-- a thread that was taken is committed, if it has a flag
 inside-commit :
     (w : RoundState) (t : ℕ) (flag : Bool) → is_finished w ≡ false → is_in_flight (taken w t) t ≡ flag → IsInside w
     → IsInside (happens (taken w t) (Commit t))
@@ -219,7 +219,7 @@ round_by-inside setup past es =
     entries-inside (opening setup past) es
     (record { picked = refl; in_flight = refl; taken_at = refl; stopped = refl; discarded = refl })
 
--- where a step can be made that goes by what there is, it can be made with nobody in flight
+-- a step that can be made by its mark can be made with no thread in flight
 begins-inside :
     (v : RoundState) (t : ℕ)
     → IsInside v → is_none v.machine.ending ≡ true → is_ready (hart_of v.machine t).status ≡ true

@@ -1,4 +1,4 @@
--- What so many workers, and one of them, execute of a round.
+-- What any number of workers, and one of them, execute of a round.
 use Rattle.std.proofs.Common.{◌≡◌, ℕ, List, Option, ap, sym, ◌∙◌, subst}
 use Rattle.machine_spec.specs.Setup.{Setup, IsSetup}
 use Rattle.history_spec.specs.History.{History, IsSound}
@@ -14,7 +14,7 @@ use Rattle.round_spec.proofs.Workers.{lone-entries}
 use Rattle.round_spec.specs.Working.{ReexecutesLeast}
 use Rattle.round_spec.proofs.InRounds.{reexecutes-after, reexecutes-by}
 
--- a round by a schedule each entry of which was picked rightly, if the history is sound
+-- a round of a schedule whose entries were chosen by the rule, if the history is sound
 reexecutes-schedule :
     (setup : Setup) (past : Option History) (entries : List Entry)
     → IsSetup setup → (round_by setup past entries).schedule ≡ entries

@@ -36,7 +36,7 @@ use Rattle.round_spec.proofs.Samples.{past_of, starts, executes, seen}
 abbrev at_pc : ℕ → Registers
 at_pc pc = record { pc = pc; x = [] }
 
--- a hart that has made so many steps, with its pc at 100
+-- a hart that has made this number of steps, with its pc at 100
 abbrev hart : ℕ → Status → Hart
 hart number status = record { view = []; regs = at_pc 100; number = number; status = status }
 
@@ -78,11 +78,11 @@ three = of_harts (hart 1 Ready ∷ hart 0 Ready ∷ hart 0 Ready ∷ [])
 abbrev in_order : Option History
 in_order = past_of (writing 0 0 0 ∷ writing 0 0 1 ∷ writing 0 2 0 ∷ writing 0 1 0 ∷ [])
 
--- the same where thread 2 writes another page
+-- the same if thread 2 writes another page
 abbrev apart : Option History
 apart = past_of (writing 0 0 0 ∷ writing 0 0 1 ∷ writing 1 2 0 ∷ writing 0 1 0 ∷ [])
 
--- a step of thread 3, which isn't there, must come before the next of all
+-- a step of thread 3, which doesn't exist, must come before the next of all
 abbrev after_3 : Option History
 after_3 = past_of (writing 0 0 0 ∷ writing 0 3 0 ∷ writing 0 2 0 ∷ writing 0 1 0 ∷ writing 0 0 1 ∷ [])
 
@@ -90,7 +90,7 @@ after_3 = past_of (writing 0 0 0 ∷ writing 0 3 0 ∷ writing 0 2 0 ∷ writing
 abbrev with_ended : Machine
 with_ended = of_harts (hart 1 Ready ∷ hart 0 Ready ∷ hart 0 Ready ∷ hart 0 (Ended 7) ∷ [])
 
--- the flags of 32 threads with thread 0 out
+-- the flags of 32 threads with thread 0 in flight
 abbrev zero_out : List Bool
 zero_out = set none_in_flight 0 true
 
@@ -100,13 +100,13 @@ unfolding none_in_flight is_due free_threads least_by best choice_by pick_of is_
     u32_at fits fits_at may_end
 due-in_order = refl
 
--- The choice is the due one; with it out, nobody.
+-- The choice is the due one; if that is in flight, none.
 pub choice-in_order : choice_by in_order three none_in_flight ≡ Some 0
 unfolding none_in_flight is_due free_threads least_by best choice_by pick_of is_picked_on first first_registers entry_of
     u32_at fits fits_at may_end
 choice-in_order = refl
 
--- Who is due and out isn't chosen again, and who isn't due waits for it.
+-- A due thread in flight isn't chosen again, and a thread that isn't due waits for it.
 pub choice-waits : choice_by in_order three zero_out ≡ None
 unfolding none_in_flight is_due free_threads least_by best choice_by pick_of is_picked_on first first_registers entry_of
     u32_at fits fits_at may_end
@@ -119,7 +119,7 @@ unfolding none_in_flight is_due free_threads least_by best choice_by pick_of is_
     u32_at fits fits_at may_end
 due-apart = refl
 
--- Of those that are due the one of the least place is chosen; with it out, the other.
+-- Of those that are due, the one of the least place is chosen; if that is in flight, the other.
 pub choice-apart : choice_by apart three none_in_flight ≡ Some 0
 unfolding none_in_flight is_due free_threads least_by best choice_by pick_of is_picked_on first first_registers entry_of
     u32_at fits fits_at may_end
@@ -130,13 +130,13 @@ unfolding none_in_flight is_due free_threads least_by best choice_by pick_of is_
     u32_at fits fits_at may_end
 choice-apart_out = refl
 
--- Where it is not the least place, it is picked rightly all the same.
+-- One that isn't of the least place is chosen by the rule all the same.
 pub picked-apart : is_picked_on apart three 2 0 ≡ true
 unfolding none_in_flight is_due free_threads least_by best choice_by pick_of is_picked_on first first_registers entry_of
     u32_at fits fits_at may_end
 picked-apart = refl
 
--- What must come before through another step is waited for, also where that one's thread has ended: thread 1's step
+-- A step that must come before through another one is waited for, also if that one's thread has exited: thread 1's step
 -- writes a page that thread 2's writes, and that another which thread 0's writes.
 pub due-through :
     map
@@ -146,25 +146,25 @@ unfolding none_in_flight is_due free_threads least_by best choice_by pick_of is_
     u32_at fits fits_at may_end
 due-through = refl
 
--- A thread that isn't there hasn't ended: all wait for its step.
+-- A thread that doesn't exist hasn't exited: all wait for its step.
 pub due-absent : map (is_due after_3 three) (0 ∷ 1 ∷ 2 ∷ []) ≡ false ∷ false ∷ false ∷ []
 unfolding none_in_flight is_due free_threads least_by best choice_by pick_of is_picked_on first first_registers entry_of
     u32_at fits fits_at may_end
 due-absent = refl
 
--- Where nobody is due and nobody is in flight, the one of the least place is chosen all the same.
+-- If no thread is due and none is in flight, the one of the least place is chosen all the same.
 pub choice-absent : choice_by after_3 three none_in_flight ≡ Some 2
 unfolding none_in_flight is_due free_threads least_by best choice_by pick_of is_picked_on first first_registers entry_of
     u32_at fits fits_at may_end
 choice-absent = refl
 
--- With a thread out there is then no choice.
+-- With a thread in flight, there is then no choice.
 pub choice-absent_out : choice_by after_3 three zero_out ≡ None
 unfolding none_in_flight is_due free_threads least_by best choice_by pick_of is_picked_on first first_registers entry_of
     u32_at fits fits_at may_end
 choice-absent_out = refl
 
--- A thread that has ended isn't waited for.
+-- A thread that has exited isn't waited for.
 pub due-ended : map (is_due after_3 with_ended) (0 ∷ 1 ∷ 2 ∷ []) ≡ false ∷ false ∷ true ∷ []
 unfolding none_in_flight is_due free_threads least_by best choice_by pick_of is_picked_on first first_registers entry_of
     u32_at fits fits_at may_end
@@ -176,13 +176,13 @@ unfolding none_in_flight is_due free_threads least_by best choice_by pick_of is_
     u32_at fits fits_at may_end
 choice-ended = refl
 
--- Who has a place comes before who has none, though it has made more steps.
+-- A thread with a place comes before one without, even if it has made more steps.
 pub choice-placed : choice_by (past_of (bare 0 0 ∷ bare 0 1 ∷ [])) three none_in_flight ≡ Some 0
 unfolding none_in_flight is_due free_threads least_by best choice_by pick_of is_picked_on first first_registers entry_of
     u32_at fits fits_at may_end
 choice-placed = refl
 
--- Who has no record is due, and is chosen before who has to wait.
+-- A thread without a record is due, and is chosen before one that has to wait.
 pub choice-unplaced :
     choice_by (past_of (writing 0 0 0 ∷ writing 0 3 0 ∷ writing 0 0 1 ∷ []))
     (of_harts (hart 1 Ready ∷ hart 5 Ready ∷ [])) none_in_flight ≡ Some 1
@@ -196,7 +196,7 @@ unfolding none_in_flight is_due free_threads least_by best choice_by pick_of is_
     u32_at fits fits_at may_end
 choice-fewest = refl
 
--- Who waits in a queue, or has ended, isn't chosen.
+-- A thread that waits in a queue, or has ended, isn't chosen.
 pub choice-ready : choice_by None (of_harts (hart 0 Blocked ∷ hart 0 (Ended 0) ∷ hart 3 Ready ∷ [])) none_in_flight ≡ Some 2
 unfolding none_in_flight is_due free_threads least_by best choice_by pick_of is_picked_on first first_registers entry_of
     u32_at fits fits_at may_end
@@ -208,31 +208,31 @@ unfolding none_in_flight is_due free_threads least_by best choice_by pick_of is_
     u32_at fits fits_at may_end
 choice-number = refl
 
--- Whose record fits is reused.
+-- A thread whose record fits reuses it.
 pub pick-reuse : pick_of (starts three in_order) ≡ pick.Reuse 0
 unfolding none_in_flight is_due free_threads least_by best choice_by pick_of is_picked_on first first_registers entry_of
     u32_at fits fits_at may_end
 pick-reuse = refl
 
--- Whose record doesn't fit is run.
+-- A thread whose record doesn't fit executes its step.
 pub pick-run : pick_of (starts three (past_of (bare 0 0 ∷ starting_at 104 0 1 ∷ []))) ≡ pick.Run 0
 unfolding none_in_flight is_due free_threads least_by best choice_by pick_of is_picked_on first first_registers entry_of
     u32_at fits fits_at may_end
 pick-run = refl
 
--- Who has no record is run.
+-- A thread without a record executes its step.
 pub pick-run_new : pick_of (starts three None) ≡ pick.Run 1
 unfolding none_in_flight is_due free_threads least_by best choice_by pick_of is_picked_on first first_registers entry_of
     u32_at fits fits_at may_end
 pick-run_new = refl
 
--- Where all wait for one that is in flight, so does the worker.
+-- If all wait for one that is in flight, so does the worker.
 pub pick-hold : pick_of (record (starts three in_order) { in_flight = zero_out }) ≡ pick.Hold
 unfolding none_in_flight is_due free_threads least_by best choice_by pick_of is_picked_on first first_registers entry_of
     u32_at fits fits_at may_end
 pick-hold = refl
 
--- A stopped round is finished, also where somebody is in flight.
+-- A stopped round is finished, also if a thread is in flight.
 pub pick-stopped : pick_of (record (starts three in_order) { in_flight = zero_out; stopped = true }) ≡ pick.Over
 unfolding none_in_flight is_due free_threads least_by best choice_by pick_of is_picked_on first first_registers entry_of
     u32_at fits fits_at may_end
@@ -244,7 +244,7 @@ unfolding none_in_flight is_due free_threads least_by best choice_by pick_of is_
     u32_at fits fits_at may_end
 pick-ended = refl
 
--- One worker that goes by the order 0, 0, 1, 0 makes these steps, though none waits for another thread's, and exits.
+-- One worker that follows the order 0, 0, 1, 0 makes these steps, though none waits for another thread's, and exits.
 pub guided-late :
     guided_from (past_of (bare 0 0 ∷ bare 0 1 ∷ bare 1 0 ∷ bare 0 2 ∷ [])) 9 (begins 9 9 late) ≡ 0 ∷ 0 ∷ 1 ∷ 0 ∷ []
 unfolding none_in_flight is_due free_threads least_by best choice_by pick_of is_picked_on first first_registers entry_of
@@ -253,7 +253,7 @@ unfolding none_in_flight is_due free_threads least_by best choice_by pick_of is_
     put_addresses loaded may_store bytes_stored with_byte all_unlocked
 guided-late = refl
 
--- With nothing to go by, main and the thread alternate.
+-- Without a history, main and the thread alternate.
 pub guided-alone : guided_from None 9 (begins 9 9 late) ≡ 0 ∷ 1 ∷ 0 ∷ 1 ∷ 0 ∷ []
 unfolding none_in_flight is_due free_threads least_by best choice_by pick_of is_picked_on first first_registers entry_of
     u32_at fits fits_at may_end step finished thunk turn fetched number_at number_in permission_at decoded reading_of
@@ -261,7 +261,7 @@ unfolding none_in_flight is_due free_threads least_by best choice_by pick_of is_
     put_addresses loaded may_store bytes_stored with_byte all_unlocked
 guided-alone = refl
 
--- Rightly picked is who is ready, at that number, and due.
+-- A thread that is ready, at that number, and due is chosen by the rule.
 pub picked-due : is_picked_on in_order three 0 1 ≡ true
 unfolding none_in_flight is_due free_threads least_by best choice_by pick_of is_picked_on first first_registers entry_of
     u32_at fits fits_at may_end
@@ -273,37 +273,37 @@ unfolding none_in_flight is_due free_threads least_by best choice_by pick_of is_
     u32_at fits fits_at may_end
 picked-number = refl
 
--- Not while somebody else is due.
+-- Not while another thread is due.
 pub picked-not_due : is_picked_on in_order three 2 0 ≡ false
 unfolding none_in_flight is_due free_threads least_by best choice_by pick_of is_picked_on first first_registers entry_of
     u32_at fits fits_at may_end
 picked-not_due = refl
 
--- Where nobody is due, anybody is.
+-- If no thread is due, any may be.
 pub picked-nobody_due : is_picked_on after_3 three 1 0 ≡ true
 unfolding none_in_flight is_due free_threads least_by best choice_by pick_of is_picked_on first first_registers entry_of
     u32_at fits fits_at may_end
 picked-nobody_due = refl
 
--- Nobody who isn't ready is.
+-- A thread that isn't ready may not be.
 pub picked-not_ready : is_picked_on None (of_harts (hart 0 Blocked ∷ hart 3 Ready ∷ [])) 0 0 ≡ false
 unfolding none_in_flight is_due free_threads least_by best choice_by pick_of is_picked_on first first_registers entry_of
     u32_at fits fits_at may_end
 picked-not_ready = refl
 
--- Not who has no record, while somebody who is due has one that fits.
+-- Nor may one without a record, while a due thread has one that fits.
 pub picked-unplaced : is_picked_on (past_of (bare 0 0 ∷ bare 0 1 ∷ [])) three 1 0 ≡ false
 unfolding none_in_flight is_due free_threads least_by best choice_by pick_of is_picked_on first first_registers entry_of
     u32_at fits fits_at may_end
 picked-unplaced = refl
 
--- Where that one doesn't fit, it may be.
+-- If that record doesn't fit, it may be.
 pub picked-unplaced_unfit : is_picked_on (past_of (bare 0 0 ∷ starting_at 104 0 1 ∷ [])) three 1 0 ≡ true
 unfolding none_in_flight is_due free_threads least_by best choice_by pick_of is_picked_on first first_registers entry_of
     u32_at fits fits_at may_end
 picked-unplaced_unfit = refl
 
--- One worker whose records fit no more, but for their places, executes every step.
+-- One worker executes every step if records give places but don't fit any more.
 pub lone-late :
     seen (after_picks 9 (starts (begins 9 9 late) (past_of (bare 0 0 ∷ bare 0 1 ∷ bare 1 0 ∷ bare 0 2 ∷ []))))
     ≡ (executes 0 ∷ executes 0 ∷ executes 1 ∷ executes 0 ∷ [], [], 0, false)

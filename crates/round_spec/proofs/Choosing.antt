@@ -1,4 +1,4 @@
--- What holds of the thread that is chosen, and that with nobody in flight there is one where any is ready.
+-- What holds of the chosen thread, and that with none in flight there is one if any is ready.
 use Rattle.std.proofs.Common.{◌≡◌, ◌⊎◌, ◌≤◌, ◌+◌, ℕ, zero, suc, Bool, true, false, not, ◌&&◌, eqb, List, [], ◌∷◌, length, map, Option, Some, None, is_some, refl, ap, sym, ◌∙◌, subst, inl, inr, arith}
 use Rattle.std.proofs.lemmas.Bool.{eqb-true}
 use Rattle.std.specs.List.{AllByRecursion, filter, list_any, range_with_len}
@@ -13,7 +13,7 @@ use Rattle.round_spec.specs.Choice.{free_threads, first_of, least_by, best, is_a
 use Rattle.round_spec.proofs.Happening.{none_in_flight-none}
 use Rattle.round_spec.proofs.Lists.{some-filter, any-range, first-all, all-filter, all-pass, all-unfiltered, range-at, least-under, some-least_by}
 
--- with nobody in flight, who is ready is free
+-- with no thread in flight, a ready one is free
 pub free-ready : (m : Machine) (v : ℕ) → is_free_in m none_in_flight v ≡ is_ready (hart_of m v).status
 free-ready m v = rw (none_in_flight-none v) (right (is_ready (hart_of m v).status))
   where
@@ -53,7 +53,7 @@ some-eligible p (t ∷ free) = either (filter p (t ∷ free))
     either [] = refl
     either (u ∷ due) = refl
 
--- with nobody in flight a thread is chosen exactly where one is ready
+-- with no thread in flight, one is chosen exactly if one is ready
 pub choice_by-some :
     (past : Option History) (m : Machine) → is_some (choice_by past m none_in_flight)
     ≡ list_any (λ (h : Hart). is_ready h.status) m.harts
@@ -66,7 +66,7 @@ choice_by-some past m =
     ∙ some-eligible (is_due past m) (free_threads m none_in_flight)
     ∙ some-free m
 
--- who is best is one of those
+-- the best is one of those
 best-all :
     (P : ℕ → Type 0) (past : Option History) (m : Machine) (xs : List ℕ) (u : ℕ)
     → AllByRecursion P xs → best past m xs ≡ Some u → P u
@@ -100,7 +100,7 @@ chosen-cases past m (t ∷ due) free any u is = inl is
 chosen-cases past m [] free false u is = inr (refl, refl, is)
 chosen-cases past m [] free true u is = absurd (best-none past m u is)
 
--- the one that is chosen: free; of the least place among those that are free and due; and due, where anybody ready is
+-- the chosen thread: free; of the least place among those that are free and due; and due, if any ready thread is
 pub record IsChosen (past : Option History) (m : Machine) (in_flight : List Bool) (u : ℕ) : Type 0 where
   pub free : is_free_in m in_flight u ≡ true
   pub least :
@@ -117,7 +117,7 @@ pub free-of :
     → is_free_in m in_flight v ≡ true
 free-of m in_flight v ready inside = rw (ready, inside) refl
 
--- where no flag is raised nobody is in flight
+-- if no flag is set, no thread is in flight
 none-in_flight : (in_flight : List Bool) (v : ℕ) → is_any_in_flight in_flight ≡ false → is_in_flight_of in_flight v ≡ false
 none-in_flight [] v none = refl
 none-in_flight (true ∷ in_flight) v none = cc
@@ -129,7 +129,7 @@ all-free :
 unfolding free_threads
 all-free m in_flight = all-pass (is_free_in m in_flight) (range_with_len 0 (length m.harts))
 
--- what holds of all free threads that pass a test
+-- what holds of all free threads that pass a test holds of each that does
 free-due :
     (P : ℕ → Type 0) (m : Machine) (in_flight : List Bool) (p : ℕ → Bool) (v : ℕ)
     → AllByRecursion P (filter p (free_threads m in_flight)) → is_free_in m in_flight v ≡ true → p v ≡ true → P v
@@ -140,7 +140,7 @@ free-due P m in_flight p v all free pass =
     (all-unfiltered P p (filter (is_free_in m in_flight) (range_with_len 0 (length m.harts))) all))
     (omega arith) (let below = ready-below m.harts v (free-is_ready m in_flight v free) in omega arith) free pass
 
--- where nobody is chosen, nobody who is free is due
+-- if none is chosen, no free thread is due
 
 nobody-due : (due free : List ℕ) (any : Bool) → is_some (first_of (eligible due free any)) ≡ false → due ≡ []
 nobody-due [] free any none = refl

@@ -1,4 +1,4 @@
--- What comes next in a history that holds together.
+-- The next step of a coherent history.
 use Rattle.std.proofs.Common.{◌≡◌, ◌<◌, ◌≤◌, ℕ, true, ◌&&◌, eqb, List, [], ◌∷◌, ◌++◌, length, count_by, Some, is_none, is_some, refl, ap, sym, ◌∙◌, append-nil, arith}
 use Rattle.std.proofs.lemmas.Bool.{and_parts, eq-eqb}
 use Rattle.std.specs.List.{AllByRecursion}
@@ -128,7 +128,7 @@ made-on m n (r ∷ rs) numbers all =
     let here : r.number < (hart_of n r.thread).number = omega arith in
     (here, made-on m n rs numbers all.1)
 
--- what comes next, also on a machine that has other memory and registers
+-- the next step, also on a machine that has other memory and registers
 pub coherent-next-on :
     (h : History) (front : List Record) (r : Record) (back : List Record) (m : Machine)
     → is_coherent h ≡ true → h.records ≡ front ++ r ∷ back
@@ -157,7 +157,7 @@ coherent-next h front r back coherent split =
     coherent-next-on h front r back (applied_from (first h.setup) front) coherent split (λ u. refl)
     (fits-can_step (applied_from (first h.setup) front) r fit.0 fit.1)
 
--- nothing comes next after all of it, on such a machine
+-- there is no next step after all of it, on such a machine
 pub coherent-over :
     (h : History) (m : Machine) (u : ℕ)
     → is_coherent h ≡ true → HasNumbersOf (applied_from (first h.setup) h.records) m

@@ -1,4 +1,4 @@
--- An event where its condition holds, and where it doesn't; and that to commit is to apply a true record that fits.
+-- An event if its condition holds, and if it doesn't; and committing is applying a true record that fits.
 use Rattle.std.proofs.Common.{◌≡◌, ℕ, true, false, cond, [], ◌∷◌, ◌++◌, set, Some, refl, ap, sym, ◌∙◌}
 use Rattle.thunk_spec.specs.Record.{Record, IsTrue}
 use Rattle.machine_spec.specs.Machine.{Machine}
@@ -85,7 +85,7 @@ same-commit :
     }
 same-commit w t m n r s machine is = rw (machine, is) refl
 
--- to commit is to apply a true record that fits
+-- committing is applying a true record that fits
 pub commit-applies :
     (w : RoundState) (r : Record)
     → IsWhole w.machine → IsTrue w.machine.frame r.start r.kept

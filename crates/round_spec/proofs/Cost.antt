@@ -1,4 +1,4 @@
--- What one worker executes pick by pick is what the executed entries of its schedule sum up to.
+-- What one worker executes pick by pick adds up to what the executed entries of its schedule have.
 use Rattle.std.proofs.Common.{◌≡◌, ◌+◌, ℕ, zero, suc, Bool, true, false, cond, List, [], ◌∷◌, ◌++◌, length, Option, is_some, refl, ap, ◌∙◌, append_assoc, append-nil, arith}
 use Rattle.std.specs.List.{range_with_len}
 use Rattle.thunk_spec.specs.Thunk.{thunk}
@@ -25,7 +25,7 @@ use Rattle.round_spec.proofs.Lone.{rounds-made}
 abbrev count_at : Machine → ℕ → ℕ
 count_at m t = (thunk m.frame (hart_of m t).view (hart_of m t).regs).count
 
--- those of the executed entries, with one entry more
+-- those of the executed entries, with one more entry
 marked-instructions :
     (past : Option History) (m : Machine) (ts : List ℕ) (t : ℕ)
     → instructions_from m (marked_from past m (ts ++ t ∷ []))

@@ -37,7 +37,7 @@ count-range f k (suc n) =
     shift ∙ ap (λ (b : Bool). cond b 1 0 + count_below (λ i. f (k + suc i)) n) zero_is in
     omega arith
 
--- one that counts taken out
+-- without one of the numbers that pass a test, at least one less is counted
 count-without :
     (q : ℕ → Bool) (k m : ℕ) → k < m → q k ≡ true → suc (count_below (λ i. q i && not (eqb i k)) m) ≤ count_below q m
 count-without q k zero below is = absurd (omega arith)
@@ -59,7 +59,7 @@ count-without q k (suc m) below is =
     and-true true = refl
     and-true false = refl
 
--- a number below another of which a test holds, matched with a number
+-- a number below another that passes a test, matched with a number
 pub record IsMatch (q : ℕ → Bool) (R : ℕ → ℕ → Type 0) (m i : ℕ) : Type 0 where
   pub at : ℕ
   pub below : at < m

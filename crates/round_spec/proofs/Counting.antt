@@ -1,4 +1,4 @@
--- A round counts right after each event, by whichever history it goes.
+-- A round counts right after each event, whichever history it is based on.
 use Rattle.std.proofs.Common.{◌≡◌, ℕ, suc, ◌+◌, Bool, true, false, cond, eqb, List, [], ◌∷◌, ◌++◌, append_assoc, append-nil, length, length-append, set, count_by, Option, Some, None, refl, ap, sym, ◌∙◌, arith}
 use Rattle.thunk_spec.specs.Record.{Record}
 use Rattle.machine_spec.specs.Machine.{Machine, hart_of, is_ready}
@@ -47,7 +47,7 @@ reusing-more past earlier (x ∷ es) (y ∷ rs) e r all last = (
       ∙ last reused),
 )
 
--- one entry more, with its record
+-- one more entry, with its record
 counted-more :
     (w : RoundState) (t : ℕ) (reused : Bool) (m : Machine) (r : Record) (picked : List ℕ) (in_flight : List Bool)
     (taken_at : List ℕ)

@@ -1,4 +1,4 @@
--- By whatever history it goes, the round of one worker never waits, comes to an end, and discards nothing.
+-- Whichever history it is based on, the round of one worker never waits, comes to an end, and discards nothing.
 use Rattle.std.proofs.Common.{◌≡◌, ◌≢◌, ◌≤◌, ◌+◌, ℕ, zero, suc, Bool, true, false, cond, List, [], ◌∷◌, ◌++◌, length, Option, Some, None, is_some, is_none, refl, ap, sym, ◌∙◌, subst, arith}
 use Rattle.thunk_spec.specs.Record.{Record}
 use Rattle.machine_spec.specs.declared.states.End.{End}
@@ -22,7 +22,7 @@ use Rattle.round_spec.specs.Choice.{pick_of}
 use Rattle.round_spec.specs.Alone.{after_pick, after_picks, lone_round}
 use Rattle.round_spec.proofs.Picks.{lone_state, after-reuse, after-run, pick-over, pick-chosen, running, below-32, Stands, Over, Goes, stands}
 
--- how a round goes on from a whole machine: it is finished and stays as it is, or one step more is made
+-- how a round continues from a whole machine: it is finished and stays as it is, or one more step is made
 data GoesOn (setup : Setup) (past : Option History) (m : Machine) (w : RoundState) : Type 0 where
   Ended : is_some m.ending ≡ true → pick_of w ≡ pick.Over → GoesOn setup past m w
   Stepped :
@@ -34,7 +34,7 @@ not-hold : (p : Pick) (t : ℕ) (b : Bool) → p ≡ cond b (pick.Reuse t) (pick
 not-hold p t true is = λ hold. cc
 not-hold p t false is = λ hold. cc
 
--- the chosen thread's record is applied where it fits, true or not, and else its step is made
+-- the chosen thread's record is applied if it fits, true or not, and else its step is made
 chosen-goes :
     (setup : Setup) (past : Option History) (m : Machine) (schedule : List Entry) (rs : List Record) (picked : List ℕ)
     (t : ℕ)
@@ -75,7 +75,7 @@ goes-on setup past m schedule rs picked whole = by (stands past m whole)
         (fits_next past m t) whole none can refl refl
         (pick-chosen setup past m schedule rs picked t (running m none) chosen)
 
--- after any number of picks nobody is in flight, nothing was discarded, nobody stopped the round, and its machine is
+-- after any number of picks no thread is in flight, nothing was discarded, the round wasn't stopped, and its machine is
 -- whole
 record IsLone (setup : Setup) (past : Option History) (w : RoundState) : Type 0 where
   machine : Machine
@@ -109,7 +109,7 @@ stays-lone setup past (suc n) m schedule rs picked whole =
         subst (λ (w : RoundState). IsLone setup past (after_picks n w)) (sym is)
         (later next more kept points whole_next)
 
--- what has ended stays as it is
+-- a round that has ended stays as it is
 over-stays :
     (setup : Setup) (past : Option History) (n : ℕ) (m : Machine) (schedule : List Entry) (rs : List Record)
     (picked : List ℕ)
@@ -121,7 +121,7 @@ over-stays setup past (suc n) m schedule rs picked ended =
     (pick-over setup past m schedule rs picked ended)
     ∙ over-stays setup past n m schedule rs picked ended
 
--- each pick makes one step more until there is an end, so the limit is reached
+-- each pick makes one more step until there is an end, so the limit is reached
 comes-to-end :
     (setup : Setup) (past : Option History) (n : ℕ) (m : Machine) (schedule : List Entry) (rs : List Record)
     (picked : List ℕ)

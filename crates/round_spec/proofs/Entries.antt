@@ -1,4 +1,4 @@
--- What stands at a place of a schedule with marks and of its records, and that what is picked rightly is in time.
+-- The entry and the record at a place of a schedule with marks; and that an entry chosen by the rule is in time.
 use Rattle.std.proofs.Common.{◌≡◌, ◌<◌, ◌≤◌, ◌+◌, ℕ, zero, suc, Bool, true, false, ◌&&◌, ◌||◌, not, eqb, List, [], ◌∷◌, length, take, get_or, slice_get, Option, Some, is_some, refl, ap, sym, ◌∙◌, inl, inr, arith}
 use Rattle.std.proofs.lemmas.Bool.{cases_eq, eqb-true}
 use Rattle.std.proofs.lemmas.List.{take-map}
@@ -54,7 +54,7 @@ pub machine-is :
     → machine_after setup schedule i ≡ machine_at setup (threads_of schedule) i
 machine-is setup schedule i = ap (scratch setup) (sym (take-map (λ (e : Entry). e.thread) i schedule))
 
--- a thread that there is passes a test
+-- a thread that exists passes a test
 in-range :
     (test : ℕ → Bool) (k n u : ℕ) → k ≤ u → u < k + n → test u ≡ true → list_any test (range_with_len k n) ≡ true
 in-range test k zero u low high is = absurd (omega arith)
@@ -66,7 +66,7 @@ in-range test k (suc n) u low high is =
           (in-range test (k + 1) n u (omega arith) (omega arith) is)
     ]
 
--- who is due by the rule is due, if anybody who is ready is
+-- a thread that is due by the rule is due, if any ready one is
 due-of :
     (h : History) (m : Machine) (t u : ℕ)
     → (is_due (Some h) m t || not (any_thread m (is_ready_and_due (Some h) m))) ≡ true
@@ -112,7 +112,7 @@ picked-parts true true false fits is = cc
 picked-parts true false due fits is = cc
 picked-parts false number due fits is = cc
 
--- who was picked rightly was in time
+-- an entry that was chosen by the rule was in time
 in_time-of :
     (setup : Setup) (past : Option History) (schedule : List Entry) (i : ℕ) (e : Entry) (p : ℕ)
     → IsPicked setup past schedule i e p → IsInTime setup past schedule i e p

@@ -28,7 +28,7 @@ use Rattle.round_spec.proofs.Samples.{past_of, starts, recorded, reuses, execute
 abbrev pub both : Machine
 both = step (begins 9 9 late) 0
 
--- a round of main and a thread, which goes by main's first record and by the thread's first
+-- a round of main and a thread, based on main's first record and on the thread's first
 abbrev pub goes_by : RoundState
 goes_by =
     starts (begins 9 9 late) (past_of
@@ -43,7 +43,7 @@ unfolding step finished apply fits fits_at may_end put_of reads_of happens none_
     all_unlocked
 reuse-fits = refl
 
--- Each condition fails once: main's record fits; thread 1 isn't there; nobody is in flight.
+-- Each condition fails once: main's record fits; thread 1 doesn't exist; no thread is in flight.
 pub fail-start : seen (all_happen goes_by (Take 0 ∷ Reuse 1 ∷ Take 1 ∷ Commit 0 ∷ GiveBack 0 ∷ [])) ≡ ([], [], 0, false)
 unfolding step finished apply fits fits_at may_end put_of reads_of happens none_in_flight thunk turn fetched number_at
     number_in permission_at decoded reading_of u_immediate i_immediate s_immediate immediate_result shift_result
@@ -71,8 +71,8 @@ unfolding step finished apply fits fits_at may_end put_of reads_of happens none_
     all_unlocked
 reuse-beside = refl
 
--- An entry is kept with how long the schedule was when its thread was picked: a reused one with its own place, and one
--- that was taken with where it was taken, though another came in between.
+-- An entry is kept with the length of the schedule when its thread was picked: a reused one with its own place, and one
+-- that was taken with the length when it was taken, though another came in between.
 pub points-beside :
     (all_happen goes_by (Reuse 0 ∷ Take 0 ∷ Reuse 1 ∷ Commit 0 ∷ [])).picked ≡ 0 ∷ 1 ∷ 1 ∷ []
 unfolding step finished apply fits fits_at may_end put_of reads_of happens none_in_flight nothing_taken thunk turn fetched
@@ -81,7 +81,7 @@ unfolding step finished apply fits fits_at may_end put_of reads_of happens none_
     first_registers all_unlocked
 points-beside = refl
 
--- What was given back, and is taken again, was picked when it was taken again; then nobody's length is kept.
+-- A step that was given back and taken again was picked when it was taken again; then no thread's length is kept.
 pub points-again :
     (all_happen goes_by (Reuse 0 ∷ Take 0 ∷ Reuse 1 ∷ GiveBack 0 ∷ Take 0 ∷ Commit 0 ∷ [])).picked ≡ 0 ∷ 1 ∷ 2 ∷ []
 unfolding step finished apply fits fits_at may_end put_of reads_of happens none_in_flight nothing_taken thunk turn fetched
@@ -114,7 +114,7 @@ unfolding step finished apply fits fits_at may_end put_of reads_of happens none_
     all_unlocked
 fail-stopped = refl
 
--- With nothing to go by, the record of neither is reused, and both can be in flight at once.
+-- Without a history, the record of neither is reused, and both can be in flight at once.
 pub no-history :
     seen (all_happen (starts (begins 9 9 late) None) (Reuse 0 ∷ Take 0 ∷ Commit 0 ∷ Take 0 ∷ Take 1 ∷ []))
     ≡ (executes 0 ∷ [], 0 ∷ 1 ∷ [], 0, false)
@@ -124,7 +124,7 @@ unfolding step finished apply fits fits_at may_end put_of reads_of happens none_
     all_unlocked
 no-history = refl
 
--- What is given back is discarded, and can be taken again.
+-- A step that is given back is discarded, and can be taken again.
 pub given-back :
     seen (all_happen goes_by (Reuse 0 ∷ Take 0 ∷ GiveBack 0 ∷ Take 0 ∷ [])) ≡ (reuses 0 ∷ [], 0 ∷ [], 1, false)
 unfolding step finished apply fits fits_at may_end put_of reads_of happens none_in_flight thunk turn fetched number_at
@@ -153,7 +153,7 @@ unfolding step finished apply fits fits_at may_end put_of reads_of happens none_
     all_unlocked
 discarded-ended = refl
 
--- A count of discarded steps that stands at 2 ^ 64 - 1 stays.
+-- A count of discarded steps of 2 ^ 64 - 1 stays.
 pub discarded-most :
     (all_happen (record goes_by { discarded = 18446744073709551615 }) (Reuse 0 ∷ Take 0 ∷ GiveBack 0 ∷ [])).discarded
     ≡ 18446744073709551615
@@ -163,7 +163,7 @@ unfolding step finished apply fits fits_at may_end put_of reads_of happens none_
     all_unlocked
 discarded-most = refl
 
--- One less rises to it.
+-- A count that is one less rises to it.
 pub discarded-one_less :
     (all_happen (record goes_by { discarded = 18446744073709551614 })
     (Reuse 0 ∷ Take 0 ∷ Stop ∷ Commit 0 ∷ [])).discarded ≡ 18446744073709551615
@@ -253,7 +253,7 @@ unfolding step finished apply fits fits_at may_end put_of reads_of happens none_
     all_unlocked
 fits-again_marks = refl
 
--- The records that were gone by, applied in order, hold together and lead to the end; one left out, no more.
+-- The records of both steps, applied in order, fit.
 pub coherent-records :
     can_apply_from (begins 9 9 (forgets 4))
     (recorded (begins 9 9 (forgets 4)) 0 [] ∷ recorded (step (begins 9 9 (forgets 4)) 0) 0 [] ∷ []) ≡ true
@@ -263,7 +263,7 @@ unfolding step finished apply fits fits_at may_end put_of reads_of happens none_
     all_unlocked
 coherent-records = refl
 
--- So does the end.
+-- They lead to the end.
 pub coherent-end :
     (applied_from (begins 9 9 (forgets 4))
     (recorded (begins 9 9 (forgets 4)) 0 [] ∷ recorded (step (begins 9 9 (forgets 4)) 0) 0 [] ∷ [])).ending

@@ -1,4 +1,4 @@
--- The counts of the records of executed entries add up to the instructions that the report tells.
+-- The counts of the records of executed entries add up to the instructions in the report.
 use Rattle.std.proofs.Common.{◌≡◌, ◌+◌, cond, List, [], ◌∷◌, Option, refl, ap, ◌∙◌}
 use Rattle.thunk_spec.specs.Record.{kept_thunk}
 use Rattle.thunk_spec.specs.Thunk.{Frame, thunk}
@@ -31,7 +31,7 @@ executed-records m (e ∷ es) =
     ∙ ap (λ n. cond e.reused 0 (thunk m.frame (hart_of m e.thread).view (hart_of m e.thread).regs).count + n)
     (executed-records (step m e.thread) es)
 
--- the sum that a round keeps is the one that its report tells
+-- the sum that a round keeps is the one in its report
 pub round-executed :
     (setup : Setup) (past : Option History) (es : List Event)
     → IsSetup setup → IsSound past setup

@@ -1,4 +1,4 @@
--- What the marks of a schedule depend on, and one entry more.
+-- What the marks of a schedule depend on, and one more entry.
 use Rattle.std.proofs.Common.{◌≡◌, ℕ, List, [], ◌∷◌, ◌++◌, Option, Some, None, refl, ap, sym, ◌∙◌}
 use Rattle.thunk_spec.specs.Thunk.{Frame}
 use Rattle.thunk_spec.specs.Record.{Record}

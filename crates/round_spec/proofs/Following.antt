@@ -1,4 +1,4 @@
--- Where a history is honest and its own setup is run again, its next step is due, is the one that is chosen, and its
+-- If a history is honest and its own setup is run again, its next step is due, is the one that is chosen, and its
 -- record fits.
 use Rattle.std.proofs.Common.{◌≡◌, ◌≢◌, ◌<◌, ◌≤◌, ◌+◌, ℕ, zero, suc, Bool, true, false, not, ◌&&◌, ◌||◌, eqb, ltb, List, [], ◌∷◌, ◌++◌, length, length-append, map, take, get_or, Option, Some, None, is_some, is_none, find, refl, ap, sym, ◌∙◌, subst, append_assoc, append-nil, inl, inr, arith}
 use Rattle.std.proofs.lemmas.List.{get_or_append_left}
@@ -35,7 +35,7 @@ use Rattle.round_spec.proofs.Choosing.{choice_by-chosen, free-ready}
 use Rattle.round_spec.proofs.Numbers.{IsMadeOn, made-all}
 use Rattle.round_spec.proofs.Picks.{guided-over, guided-next, Stands, Over, Goes, stands}
 
--- where nothing in front passes a test
+-- if no record in front passes a test
 
 position-after :
     (p : Record → Bool) (front rest : List Record)
@@ -77,7 +77,7 @@ made-none_next :
 made-none_next m u [] all = tt
 made-none_next m u (r ∷ rs) all = (made-not_next m u r all.0, made-none_next m u rs all.1)
 
--- the records in front are those of steps that have been made, and then comes one of a step that can be made
+-- the records in front are of steps that have been made, and then comes the one of a step that can be made
 pub record IsNext (past : Option History) (m : Machine) (front : List Record) (r : Record) (back : List Record) : Type 0
   where
     pub split : past_records past ≡ front ++ r ∷ back
@@ -164,7 +164,7 @@ all-at P [] j d all below = absurd (omega arith)
 all-at P (r ∷ rs) zero d all below = all.0
 all-at P (r ∷ rs) (suc j) d all below = all-at P rs j d all.1 (omega arith)
 
--- all in front is passed
+-- all steps in front are passed
 next-passed :
     (h : History) (m : Machine) (front : List Record) (r : Record) (back : List Record) (a : ℕ)
     → IsNext (Some h) m front r back → a < length front → is_passed_at (facts h) m a ≡ true
@@ -205,7 +205,7 @@ can_step-none m t can = none (m.ending) (and-left (is_none m.ending) (is_ready (
     none (Some e) h = cc
     none None h = refl
 
--- it is what is chosen
+-- it is the chosen one
 pub next-chosen :
     (past : Option History) (m : Machine) (front : List Record) (r : Record) (back : List Record)
     → IsWhole m → IsNext past m front r back → choice_by past m none_in_flight ≡ Some r.thread
@@ -259,7 +259,7 @@ honest-whole h xs ys honest split =
 pub own-fits : (m : Machine) (t : ℕ) → can_step m t ≡ true → fits m (record_of m t) ≡ true
 own-fits m t can = record-fits m t (can_step-ready m t can)
 
--- what comes next in an honest history
+-- the next step of an honest history
 pub honest-next :
     (h : History) (xs : List ℕ) (t : ℕ) (ys : List ℕ)
     → IsHonest h → schedule_of h ≡ xs ++ t ∷ ys
@@ -292,7 +292,7 @@ pub some-is : {X : Type 0} (o : Option X) → is_some o ≡ true → (x : X) × 
 some-is (Some x) h = (x, refl)
 some-is None h = cc
 
--- one worker follows it
+-- one worker follows its schedule
 pub follow :
     (h : History) (n : ℕ) (xs ys : List ℕ)
     → IsHonest h → schedule_of h ≡ xs ++ ys

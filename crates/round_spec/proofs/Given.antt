@@ -1,4 +1,4 @@
--- A step that may come gives no view to a thread of a step that is left before it in the old order.
+-- A step that may come next gives no view to a thread with a remaining step before it in the old order.
 use Rattle.std.proofs.Common.{◌≡◌, ◌≢◌, ◌<◌, ◌≤◌, ◌+◌, ℕ, suc, Bool, true, false, ◌&&◌, ◌||◌, not, eqb, cond, List, [], ◌∷◌, ◌++◌, length, get_or, Option, Some, None, is_none, refl, ap, sym, ◌∙◌, inl, inr, arith}
 use Rattle.std.proofs.lemmas.Bool.{cases_eq, eq-eqb}
 use Rattle.std.proofs.lemmas.Bool.Decides.{nat_tests}
@@ -33,7 +33,7 @@ pub starting-below : (c : Option (ℕ × ℕ)) (n u : ℕ) → u < n → is_in u
 starting-below None n u below = refl
 starting-below (Some c) n u below = let isnt : eqb n u ≡ false = grind (arith, nat_tests) in rw isnt refl
 
--- who is ready is given no view by another
+-- another thread gives no view to a ready one
 pub unserved :
     (m : Machine) (r : Record) (u : ℕ)
     → IsWhole m → fits m r ≡ true → is_ready (hart_of m u).status ≡ true → u ≢ r.thread
@@ -57,7 +57,7 @@ abbrev pub given_of : List Fact → List ℕ
 given_of [] = []
 given_of (g ∷ gs) = g.given
 
--- whether no step before the first one of a thread is of a thread among some
+-- whether, before the first step of a thread, no step is of one of some threads
 abbrev pub ahead_free : ℕ → List ℕ → List Fact → Bool
 ahead_free t given [] = true
 ahead_free t given (f ∷ fs) = eqb f.thread t || (not (is_in f.thread given) && ahead_free t given fs)
@@ -135,7 +135,7 @@ given-free reads t (a ∷ rs) m whole reading can may =
           ∙ (rw (not_own, apart_next) rest)
     ]
 
--- so of the places that are left before place j
+-- so of the remaining places before place j
 pub ahead-at :
     (come : List ℕ) (look : ℕ → Fact) (j : ℕ) (given : List ℕ) (gs : List Fact) (k i : ℕ)
     → is_in i come ≡ false → k ≤ i → i < j → j < k + length gs

@@ -53,7 +53,7 @@ cleared [] t = refl
 cleared (b ∷ in_flight) zero = refl
 cleared (b ∷ in_flight) (suc t) = cleared in_flight t
 
--- who is in flight after a flag was cleared was in flight before, and is another thread
+-- a thread that is in flight after a flag was cleared was in flight before, and is another one
 pub still_in_flight : (in_flight : List Bool) (t u : ℕ) → is_in_flight_of (set in_flight t false) u ≡ true → (u ≢ t) × (is_in_flight_of in_flight u ≡ true)
 still_in_flight in_flight t u is =
     elim (cases_eq u t) [
@@ -63,7 +63,7 @@ still_in_flight in_flight t u is =
 
 -- conditions
 
--- what holds where a thread's next step can be begun
+-- what holds if a thread's next step can be started
 pub record CanBegin (w : RoundState) (t : ℕ) : Type 0 where
   pub none : is_none w.machine.ending ≡ true
   pub ready : is_ready (hart_of w.machine t).status ≡ true
@@ -92,9 +92,9 @@ pub open-none : (e : Option End) (stopped : Bool) → (is_some e || stopped) ≡
 open-none (Some e) stopped h = cc
 open-none None stopped h = refl
 
--- one entry more
+-- one more entry
 
--- a step whose record and mark are right leaves the round at the machine from scratch
+-- a step whose record and mark are right keeps the round at the machine from scratch
 from_scratch-more :
     (w : RoundState) (t : ℕ) (reused : Bool) (m : Machine) (r : Record) (picked : List ℕ) (in_flight : List Bool)
     (taken_at : List ℕ)
@@ -147,7 +147,7 @@ from_scratch-more w t reused m r picked in_flight taken_at s can is_step is_reco
           ∙ ap (marked_from w.past start) (sym threads);
     }
 
--- a machine at which who is in flight has the hart that it had
+-- a machine at which a thread in flight has the same hart as before
 held-same :
     (w v : RoundState) (u : ℕ)
     → v.past ≡ w.past → v.machine.frame ≡ w.machine.frame → hart_of v.machine u ≡ hart_of w.machine u
@@ -161,7 +161,7 @@ held-same w v u past frame same held =
           ∙ held.unfit;
     }
 
--- who is in flight, what was discarded and whether the round was stopped are no part of what is from scratch
+-- what is from scratch doesn't depend on threads in flight, on what was discarded or on the stop
 aside-scratch :
     (w : RoundState) (in_flight : List Bool) (taken_at : List ℕ) (discarded : ℕ) (stopped : Bool) → IsFromScratch w
     → IsFromScratch (record w { in_flight = in_flight; taken_at = taken_at; discarded = discarded; stopped = stopped })

@@ -1,4 +1,4 @@
--- What is executed in a round that stays within the work of the history it goes by.
+-- What a round executes that stays within the work of the history that it is based on.
 use Rattle.std.proofs.Common.{◌≡◌, ◌<◌, ◌≤◌, ◌+◌, ℕ, zero, suc, Bool, true, false, not, List, length, map, get_or, slice_get, Option, Some, None, refl, ap, sym, ◌∙◌, subst, arith}
 use Rattle.std.proofs.lemmas.Bool.{eq-eqb}
 use Rattle.std.specs.List.{range_with_len}
@@ -32,7 +32,7 @@ use Rattle.round_spec.proofs.Reached.{executed-reached}
 use Rattle.round_spec.proofs.Counted.{count-list, count-range, count-inject}
 use Rattle.round_spec.proofs.Entries.{get-below, get-some, marked-at, records-at, threads-length, timely-of, are_in_time}
 
--- what stands for an entry where there is none
+-- the stand-in for an entry that doesn't exist
 abbrev no_entry : Entry
 no_entry = record { thread = 0; reused = true }
 
@@ -103,7 +103,7 @@ module _
             record { old = old.0; there = old.1.0; work = old.1.1 };
       }
 
-  -- what is executed has its old step, which is reached
+  -- an executed entry has its old step, which is reached
   record IsOldStep (i : ℕ) : Type 0 where
     pub place : ℕ
     pub below : place < length (facts h)
@@ -248,7 +248,7 @@ module _
   pub executes-reached : ExecutesWhatIsReached h w
   executes-reached = record { entries = entries; count = count }
 
--- the same work is within the work
+-- a record with the same work is within the work
 pub work-within : (old new : Record) → IsSameWork old new → IsWithinWork old new
 work-within old new same =
     record {
@@ -303,7 +303,7 @@ executed-like v w i r schedule records executed =
       recorded = ap (λ (rs : List Record). slice_get rs i) (sym records) ∙ executed.recorded;
     }
 
--- it depends on what a round starts from, its schedule and its records alone
+-- it depends only on what a round starts from, its schedule and its records
 reexecutes-like :
     (v w : RoundState)
     → v.setup ≡ w.setup → v.past ≡ w.past → v.schedule ≡ w.schedule → v.records ≡ w.records

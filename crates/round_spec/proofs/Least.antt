@@ -18,7 +18,7 @@ both-ways false true to from = from refl
 both-ways false false to from = refl
 
 module _ (fs : List Fact) (reads : List (List ℕ)) (pages : List ℕ) where
-  -- any bound above the place will do
+  -- any bound above the place suffices
   pub within-least :
       (among : ℕ → Bool) → IsClosedSet fs reads pages among → (n j : ℕ) → j < length fs
       → reached_within fs reads pages n j ≡ true → among j ≡ true
@@ -66,7 +66,7 @@ module _ (fs : List Fact) (reads : List (List ℕ)) (pages : List ℕ) where
             rw before leads));
       }
 
-  -- as many links as there are places before will do
+  -- as many links as there are places before suffice
   pub within-fewer :
       (n j : ℕ) → reached_within fs reads pages n j ≡ true → reached_within fs reads pages (suc j) j ≡ true
   within-fewer zero j is = cc
@@ -87,7 +87,7 @@ module _ (fs : List Fact) (reads : List (List ℕ)) (pages : List ℕ) where
             (rw (before, leads) refl))
       ]
 
-  -- so one pass from the front tells which are reached
+  -- so one pass from the front finds which are reached
   pub reached-pass :
       (j : ℕ) → is_reached fs reads pages j
       ≡ (meets pages (read_at reads j) || any_below (λ i. is_reached fs reads pages i && leads_to fs reads i j) j)

@@ -1,4 +1,4 @@
--- What a round keeps from its start on, and what it leaves.
+-- What a round keeps from its start on, and its history.
 use Rattle.std.proofs.Common.{◌≡◌, ℕ, Bool, true, false, cond, List, [], ◌∷◌, Option, Some, None, is_some, refl, ap, sym, ◌∙◌, subst}
 use Rattle.thunk_spec.specs.Record.{Record}
 use Rattle.machine_spec.specs.Machine.{Machine}
@@ -14,7 +14,7 @@ use Rattle.round_spec.specs.Rounds.{RoundState, opening, is_finished, is_in_flig
 use Rattle.round_spec.specs.Keeping.{IsFromScratch}
 use Rattle.round_spec.proofs.Happening.{round-kept}
 
--- two rounds of one setup that go by one history
+-- two rounds of one setup that are based on one history
 pub record IsOfSame (v w : RoundState) : Type 0 where
   pub setup : v.setup ≡ w.setup
   pub past : v.past ≡ w.past
@@ -58,7 +58,7 @@ round-setup setup past es = (same-all_happen (opening setup past) es).setup
 pub round-past : (setup : Setup) (past : Option History) (es : List Event) → (round_after setup past es).past ≡ past
 round-past setup past es = (same-all_happen (opening setup past) es).past
 
--- a round that goes by a sound history is at the machine from scratch
+-- a round that is based on a sound history is at the machine from scratch
 pub round-scratch :
     (setup : Setup) (past : Option History) (es : List Event)
     → IsSetup setup → IsSound past setup → IsFromScratch (round_after setup past es)
@@ -67,7 +67,7 @@ round-scratch setup past es valid sound =
     (subst (λ (p : Option History). IsSound p (round_after setup past es).setup) (sym (round-past setup past es))
     (subst (IsSound past) (sym (round-setup setup past es)) sound))
 
--- at the machine from scratch, with an end, what is left is an honest history
+-- at the machine from scratch, with an end, the round's history is honest
 pub leaves-honest :
     (w : RoundState)
     → IsSetup w.setup → IsFromScratch w → is_some w.machine.ending ≡ true

@@ -1,4 +1,4 @@
--- Places that are left: the first of them comes first, and as long as one is left its thread can step.
+-- Remaining places: the first of them comes first, and as long as one remains, its thread can make a step.
 use Rattle.std.proofs.Common.{◌≡◌, ◌≢◌, ◌<◌, ◌≤◌, ◌+◌, ℕ, zero, suc, Bool, true, false, ◌&&◌, eqb, cond, List, [], ◌∷◌, length, get_or, is_none, refl, ap, sym, ◌∙◌, inl, inr, ◌⊎◌, arith}
 use Rattle.std.proofs.lemmas.Bool.{cases_eq}
 use Rattle.std.proofs.lemmas.Bool.Decides.{nat_tests}
@@ -19,7 +19,7 @@ use Rattle.history_spec.proofs.Places.{left_from}
 use Rattle.round_spec.proofs.Like.{record_at}
 use Rattle.round_spec.proofs.Given.{starting-below}
 
--- a list that begins with a thing
+-- a list that begins with an element
 pub record HasHead {A : Type 0} (a : A) (xs : List A) : Type 0 where
   pub rest : List A
   pub is : xs ≡ a ∷ rest
@@ -46,7 +46,7 @@ left-head d come look j (x ∷ xs) k isnt low high at came =
           record { rest = next.rest; is = rw there next.is }
     ]
 
--- one that is left is there
+-- the rest isn't empty while a place remains
 pub left-full :
     {A : Type 0} → (come : List ℕ) (j : ℕ) (xs : List A) (k : ℕ) → is_in j come ≡ false → k ≤ j → j < k + length xs
     → left_from k come xs ≡ [] → ⊥
@@ -112,7 +112,7 @@ full-going m [] full can = absurd (full refl)
 full-going m (r ∷ rs) full can =
     and-left (is_none m.ending) (fits m r) (and-left (is_none m.ending && fits m r) (can_apply_from (apply m r) rs) can)
 
--- who has ended makes no step that is left
+-- a thread that has ended has no remaining step
 
 ended-count : (s : Status) → is_ended s ≡ true → blocked_count s ≡ 0
 ended-count Ready is = cc

@@ -32,7 +32,7 @@ pub record IsTimely (h : History) (setup : Setup) (schedule : List ℕ) (i p : �
       → is_due_by (facts h) (machine_at setup schedule p) u ≡ true
       → is_due_by (facts h) (machine_at setup schedule p) (slice_index schedule i) ≡ true
 
--- the history has a record of a record's thread and number, within whose work it stays
+-- the history has a record of the same thread and number, and this one stays within its work
 pub record IsWorkOfOld (h : History) (q : Record) : Type 0 where
   pub old : Record
   pub there : found (Some h) q.thread q.number ≡ Some old

@@ -1,4 +1,4 @@
--- What is needed of lists of thread numbers: the first of them, those that pass a test, and the least of a measure.
+-- Facts of lists of thread numbers: the first of them, those that pass a test, and the least of a measure.
 use Rattle.std.proofs.Common.{◌≡◌, ◌<◌, ◌≤◌, ◌+◌, ℕ, zero, suc, Bool, true, false, ◌||◌, eqb, cond, List, [], ◌∷◌, length, map, Some, is_some, replicate, get_or, set, refl, sym, ◌∙◌, subst, inl, inr, arith}
 use Rattle.std.proofs.lemmas.Bool.{eq-eqb, cases_lt, cases_eq}
 use Rattle.std.specs.List.{AllByRecursion, filter, list_any, range_with_len}
@@ -6,7 +6,7 @@ use Rattle.machine_spec.specs.Machine.{Hart, hart_in}
 use Rattle.machine_spec.specs.Choice.{least}
 use Rattle.round_spec.specs.Choice.{first_of, least_by}
 
--- there is a first of those that pass where any passes
+-- there is a first of those that pass if any passes
 pub some-filter : (p : ℕ → Bool) (xs : List ℕ) → is_some (first_of (filter p xs)) ≡ list_any p xs
 some-filter p [] = refl
 some-filter p (x ∷ xs) =
@@ -22,7 +22,7 @@ any-range p q [] a same = refl
 any-range p q (h ∷ hs) a same =
     rw (same 0 a (omega arith), any-range p q hs (a + 1) (λ i k is. same (suc i) k (omega arith))) refl
 
--- what holds of the first
+-- what holds of each holds of the first
 pub first-all : (P : ℕ → Type 0) (xs : List ℕ) (x : ℕ) → AllByRecursion P xs → first_of xs ≡ Some x → P x
 first-all P [] x all is = cc
 first-all P (y ∷ ys) x all is = let same : y ≡ x = cc in subst P same all.0
@@ -34,7 +34,7 @@ all-filter P p (x ∷ xs) all =
     elim (p x) as (λ b. AllByRecursion P (cond b (x ∷ filter p xs) (filter p xs)))
     [ true ↦ (all.0, all-filter P p xs all.1) | false ↦ all-filter P p xs all.1 ]
 
--- those that pass pass
+-- those that are kept pass the test
 pub all-pass : (p : ℕ → Bool) (xs : List ℕ) → AllByRecursion (λ x. p x ≡ true) (filter p xs)
 all-pass p [] = tt
 all-pass p (x ∷ xs) = here (p x) refl (all-pass p xs)
@@ -45,7 +45,7 @@ all-pass p (x ∷ xs) = here (p x) refl (all-pass p xs)
     here true is rest = (is, rest)
     here false is rest = rest
 
--- what holds of those that pass holds of each that passes
+-- what holds of those that are kept holds of each that passes
 pub all-unfiltered :
     (P : ℕ → Type 0) (p : ℕ → Bool) (xs : List ℕ)
     → AllByRecursion P (filter p xs) → AllByRecursion (λ x. p x ≡ true → P x) xs
@@ -105,7 +105,7 @@ some-least_by f [] = refl
 some-least_by f (x ∷ xs) =
     some-filter (λ t. eqb (f t) (least (map f (x ∷ xs)))) (x ∷ xs) ∙ least-there f x xs (least (map f (x ∷ xs))) refl
 
--- a flag that is raised is up
+-- a flag that was set is set
 pub get-raised : (n v : ℕ) → v < n → get_or (set (replicate n false) v true) v false ≡ true
 get-raised zero v below = absurd (omega arith)
 get-raised (suc n) zero below = refl

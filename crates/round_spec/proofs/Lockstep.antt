@@ -1,4 +1,4 @@
--- A round beside the old history applied along the round's schedule.
+-- A round and the old history, applied along the round's schedule.
 use Rattle.std.proofs.Common.{◌≡◌, ◌<◌, ◌≤◌, ◌+◌, ℕ, Bool, true, false, ◌&&◌, ◌||◌, not, eqb, ltb, List, ◌∷◌, length, get_or, Option, Some, None, is_none, refl, ap, ap₂, sym, ◌∙◌, subst, inl, inr, arith}
 use Rattle.std.proofs.lemmas.Bool.{cases_eq}
 use Rattle.std.proofs.lemmas.Bool.Decides.{nat_tests}
@@ -35,7 +35,7 @@ use Rattle.round_spec.proofs.Along.{number-grows}
 use Rattle.round_spec.proofs.Placed.{all-below-of, not-or, not-or_gives}
 use Rattle.round_spec.proofs.Spread.{among_steps, step-at, of-step, tainted}
 
--- what holds before an entry: the steps that have come, with all that must come before them; the old machine after
+-- what holds before an entry: the set of steps that have come has all that must come before them; the old machine after
 -- these; and that the round's machine is near it
 --
 pub record IsAt (h : History) (setup : Setup) (schedule : List ℕ) (among : ℕ → Bool) (i : ℕ) : Type 0 where
@@ -108,7 +108,7 @@ module _
         | inr none ↦ none
       ]
 
-  -- the first step that is left is due, so who was picked was due
+  -- the first remaining step is due, so the thread that was picked was due
   module _ (i p : ℕ) (below : i < length schedule) (picked : IsTimely h setup schedule i p)
       (at_p : IsAt h setup schedule among p) (next : IsNextStep h setup schedule i) where
     below_fs : next.at < length (facts h)
@@ -250,7 +250,7 @@ module _
               ]
         ]
 
-  -- the entry's old step is the next of the steps that are left
+  -- the entry's old step is the next of the remaining steps
   pub record IsTurn (i : ℕ) (at : IsAt h setup schedule among i) (j : ℕ) : Type 0 where
     pub isnt : is_in j at.come ≡ false
     pub came_all : (k : ℕ) → k < j → before_at (facts h) k j ≡ true → is_in k at.come ≡ true

@@ -1,5 +1,5 @@
--- The whole round of one worker: its schedule is permitted and complete, and by a sound history it is the round which
--- that makes.
+-- The whole round of one worker: its schedule is permitted and complete, and if the history is sound, it is the round
+-- that its schedule makes.
 use Rattle.std.proofs.Common.{◌≡◌, ◌≤◌, ◌+◌, ℕ, zero, suc, Bool, true, false, cond, List, [], ◌∷◌, ◌++◌, Option, Some, None, is_some, unwrap_or, refl, ap, sym, ◌∙◌, subst, append_assoc, append-nil, arith}
 use Rattle.thunk_spec.specs.Record.{Record}
 use Rattle.machine_spec.specs.declared.states.End.{End}
@@ -38,7 +38,7 @@ guided-permitted past (suc n) m whole =
     by (Goes t none chosen can) later =
         ap (is_permitted_from m) (guided-next past n m t none chosen) ∙ (rw can (later t can))
 
--- and complete, where there are picks enough
+-- and complete, if there are enough picks
 pub guided-complete :
     (past : Option History) (n : ℕ) (m : Machine)
     → IsWhole m → m.limit ≤ m.steps + n → is_complete_from m (guided_from past n m) ≡ true
@@ -112,7 +112,7 @@ pub one_worker-complete :
 one_worker-complete setup past valid =
     guided-complete past setup.limit (first setup) (IsWhole-first setup valid) (first-limit setup)
 
--- the records of a permitted schedule come from where the marks say
+-- the records of a permitted schedule come from the history or a step, as the marks say
 source-is :
     (past : Option History) (setup : Setup) (m : Machine) (t : ℕ) (o : Option Record) (b : Bool)
     → IsSound past setup → IsWhole m → m.frame ≡ (first setup).frame

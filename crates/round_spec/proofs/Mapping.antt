@@ -1,4 +1,4 @@
--- The records of a round have their slots in its map, where those that it goes by have.
+-- The records of a round have their slots in its map, if those of its history have.
 use Rattle.std.proofs.Common.{◌≡◌, ℕ, Bool, true, false, cond, List, [], ◌∷◌, ◌++◌, All, length, Option, Some, None, refl, ap, sym, ◌∙◌, subst}
 use Rattle.std.proofs.lemmas.List.Elements.{recursion_from_All, All-from_recursion}
 use Rattle.std.specs.List.{AllByRecursion}
@@ -19,7 +19,7 @@ use Rattle.round_spec.specs.Marks.{record_for}
 use Rattle.round_spec.specs.Rounds.{RoundState, opening, is_finished, is_in_flight, can_take, can_reuse, taken, reused_by, committed, given_back, happens, all_happen, round_after, history_of}
 use Rattle.round_spec.proofs.Leaving.{same-happens, round-setup}
 
--- what holds of both holds of either
+-- what holds of both holds in either case
 either-round : (P : RoundState → Type 0) (b : Bool) (v w : RoundState) → P v → P w → P (cond b v w)
 either-round P true v w left right = left
 either-round P false v w left right = right
@@ -54,7 +54,7 @@ mapped-more :
 mapped-more n [] r all last = (last, tt)
 mapped-more n (x ∷ rs) r all last = (all.0, mapped-more n rs r all.1 last)
 
--- the records of a round, in a map of so many pages
+-- the records of a round, in a map of this number of pages
 abbrev AreMapped : ℕ → RoundState → Type 0
 AreMapped n w = AllByRecursion (IsMappedIn n) w.records
 
@@ -109,7 +109,7 @@ event-mapped n w e past pages all =
     (happens-mapped n w e (recursion_from_All (IsMappedIn n) (past_records w.past) past) pages
     (recursion_from_All (IsMappedIn n) w.records all))
 
--- so what a round leaves is mapped
+-- so a round's own history is mapped
 pub round-mapped :
     (setup : Setup) (past : Option History) (es : List Event)
     → All (IsMappedIn (length (map_of setup))) (past_records past) → IsMapped (history_of (round_after setup past es))

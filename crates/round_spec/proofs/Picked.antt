@@ -1,4 +1,4 @@
--- Each entry of the round of one worker was picked rightly.
+-- Each entry of the round of one worker was chosen by the rule.
 use Rattle.std.proofs.Common.{◌≡◌, ◌<◌, ◌≤◌, ◌+◌, ℕ, zero, suc, Bool, true, false, not, ◌&&◌, ◌||◌, eqb, cond, List, [], ◌∷◌, length, take, get_or, Option, Some, None, is_some, find, refl, ap, sym, ◌∙◌, subst, inl, inr, arith}
 use Rattle.std.proofs.lemmas.Bool.{eq-eqb}
 use Rattle.std.proofs.lemmas.List.FromFn.{length-range_with_len, get_or-range_with_len}
@@ -67,7 +67,7 @@ after-marked setup past ts i =
     (sym (take-map (λ (e : Entry). e.thread) i (marked past setup ts))
     ∙ ap (take i) (marked-threads past (first setup) ts))
 
--- who has no place has no record
+-- a thread without a place has no record
 find-none : (p : Record → Bool) (rs : List Record) → is_some (find p rs) ≡ false → position_or_len p rs ≡ length rs
 find-none p [] none = refl
 find-none p (r ∷ rs) none =
@@ -145,7 +145,7 @@ right-fit past m in_flight u false held chosen is =
     unfit v false inside place ready due =
         unfit-past past m v (let least = chosen.least v (free-of m in_flight v ready inside) due in omega arith)
 
--- who is chosen is picked rightly, where no record of anybody who is in flight fits
+-- a chosen thread is chosen by the rule, if no record of a thread in flight fits
 pub chosen-picked :
     (past : Option History) (m : Machine) (in_flight : List Bool) (u : ℕ)
     → ((v : ℕ) → is_in_flight_of in_flight v ≡ true → fits_next past m v ≡ false)
@@ -199,7 +199,7 @@ lone-picked setup past i e valid sound =
     (sym (rounds-made setup past setup.limit valid sound))
     (guided-picked setup past i e valid)
 
--- each of them was picked when its turn came
+-- each of them was picked when the schedule was as long as its place
 pub lone-points :
     (setup : Setup) (past : Option History) → IsSetup setup → IsSound past setup
     → (lone_round setup past).picked ≡ range_with_len 0 (length (lone_round setup past).schedule)

@@ -1,4 +1,4 @@
--- Entries that weren't picked rightly, whatever the machine is.
+-- Entries that weren't chosen by the rule, whatever the machine is.
 use Rattle.std.proofs.Common.{◌≡◌, ℕ, List, [], ◌∷◌, length, Option, refl, arith}
 use Rattle.machine_spec.specs.Setup.{Setup}
 use Rattle.history_spec.specs.History.{History}

@@ -91,7 +91,7 @@ raised t below = get-raised 32 t below
 lowered : (t : ℕ) → set (set none_in_flight t true) t false ≡ none_in_flight
 lowered t = set-back none_in_flight t true false (none_in_flight-none t)
 
--- so are lengths
+-- a kept length is read back, and can be removed
 noted : (t n : ℕ) → t < 32 → get_or (set nothing_taken t n) t 0 ≡ n
 noted t n below =
     let lengths = nothing_taken-length in get_or-set_same nothing_taken t n 0 (omega arith)
@@ -151,7 +151,7 @@ chosen-ready :
     → is_ready (hart_of m t).status ≡ true
 chosen-ready past m t chosen = free-is_ready m none_in_flight t (choice_by-chosen past m none_in_flight t chosen).free
 
--- to follow the choice of a thread makes its step, by its record where that fits
+-- following the choice of a thread makes its step, by its record if that fits
 after-chosen :
     (setup : Setup) (past : Option History) (m : Machine) (schedule : List Entry) (rs : List Record) (picked : List ℕ)
     (t : ℕ)
@@ -202,7 +202,7 @@ after-over setup past ts e is =
     (pick-over setup past (scratch setup ts) (marked past setup ts) (records setup ts) (range_with_len 0 (length ts))
     (ap (λ (o : Option End). is_some o) is))
 
--- nothing is chosen after an end, and somebody before it
+-- after an end no thread is chosen, and before it one is
 pub guided-over :
     (past : Option History) (n : ℕ) (m : Machine) (e : End) → m.ending ≡ Some e
     → guided_from past n m ≡ []
@@ -218,7 +218,7 @@ guided-next past n m t none chosen =
     ap (λ (o : Option End). chosen_first o (choice_by past m none_in_flight) (λ u. guided_from past n (step m u))) none
     ∙ ap (λ (o : Option ℕ). chosen_first None o (λ u. guided_from past n (step m u))) chosen
 
--- how things stand after a permitted schedule: at an end, or before the step of the chosen thread
+-- the state after a permitted schedule: at an end, or before the step of the chosen thread
 pub data Stands (past : Option History) (m : Machine) : Type 0 where
   Over : (e : End) → m.ending ≡ Some e → Stands past m
   Goes : (t : ℕ) → m.ending ≡ None → choice_by past m none_in_flight ≡ Some t → can_step m t ≡ true → Stands past m

@@ -1,4 +1,4 @@
--- What one worker does at its picks are events, and its round leaves an honest history.
+-- What one worker does at its picks are events, and its round's history is honest.
 use Rattle.std.proofs.Common.{◌≡◌, ℕ, true, List, Option, ap, sym, ◌∙◌, subst}
 use Rattle.machine_spec.specs.Setup.{Setup, IsSetup, first, is_permitted, is_complete, records}
 use Rattle.history_spec.specs.History.{History, IsHonest, IsSound, threads_of_records}

@@ -1,4 +1,4 @@
--- The steps of a history by their places, their threads and numbers, and who is due by that.
+-- The steps of a history by their places, their threads and numbers, and which threads are due by that.
 use Rattle.std.proofs.Common.{◌≡◌, ◌<◌, ◌≤◌, ◌+◌, ℕ, zero, suc, Bool, true, false, ◌&&◌, ◌||◌, not, eqb, cond, List, [], ◌∷◌, ◌++◌, length, map, get_or, count_by, Some, refl, ap, ap₂, sym, ◌∙◌, subst, inl, inr, arith}
 use Rattle.std.proofs.Math.ListN as numbered
 use Rattle.std.proofs.lemmas.Bool.{cases_eq, cases_lt, eq-eqb, eqb-true}
@@ -97,7 +97,7 @@ numbered-at (x ∷ rs) earlier (suc j) d right below =
     let one : one_for (get_or rs j d).thread x.thread ≡ cond (eqb x.thread (get_or rs j d).thread) 1 0 = refl in
     omega arith
 
--- what stands for a record where there is none
+-- the stand-in for a record that doesn't exist
 abbrev pub no_record : Record
 no_record =
     record {
@@ -151,14 +151,14 @@ record-number h j right below =
     (λ k. eqb (fact_at (facts h) k).thread (fact_at (facts h) j).thread) j
     (λ k. ap₂ eqb (thread-is h k) (record-thread h j below))
 
--- a record is of a thread at a number where its step is
+-- a record is of a thread at a number exactly if its place is that of the thread's step at the number
 pub step-at :
     (h : History) (t number j : ℕ) → is_numbered h.records ≡ true → j < length h.records
     → is_of t number (get_or h.records j no_record) ≡ is_step_at (facts h) t number j
 step-at h t number j right below =
     ap₂ (λ (u n : ℕ). eqb u t && eqb n number) (record-thread h j below) (record-number h j right below)
 
--- where a step is
+-- the thread of the step at a place
 pub step-thread : (fs : List Fact) (t number j : ℕ) → is_step_at fs t number j ≡ true → (fact_at fs j).thread ≡ t
 step-thread fs t number j is =
     eqb-true (fact_at fs j).thread t (and-left (eqb (fact_at fs j).thread t) (eqb (number_at fs j) number) is)
@@ -167,7 +167,7 @@ pub step-number : (fs : List Fact) (t number j : ℕ) → is_step_at fs t number
 step-number fs t number j is =
     eqb-true (number_at fs j) number (and-right (eqb (fact_at fs j).thread t) (eqb (number_at fs j) number) is)
 
--- who has no place is due
+-- a thread without a place is due
 pub absent-due :
     (h : History) (m : Machine) (t : ℕ) → is_numbered h.records ≡ true → place_in (Some h) m t ≡ length h.records
     → is_due (Some h) m t ≡ true
@@ -183,7 +183,7 @@ absent-due h m t right far =
     ∙ fails_before_first (is_of t (hart_of m t).number) h.records j no_record (omega arith) in
     rw none refl)
 
--- the step of who has a place is there
+-- the step of a thread that has a place is there
 pub placed-step :
     (h : History) (m : Machine) (t : ℕ) → is_numbered h.records ≡ true → place_in (Some h) m t < length h.records
     → is_step_at (facts h) t (hart_of m t).number (place_in (Some h) m t) ≡ true
@@ -191,7 +191,7 @@ placed-step h m t right near =
     sym (step-at h t (hart_of m t).number (place_in (Some h) m t) right near)
     ∙ passes_at_first (is_of t (hart_of m t).number) h.records no_record near
 
--- who is due whose step is at a place, and at no other
+-- a thread whose step is at a place is due exactly if all that must come before that place is passed
 pub due-at :
     (fs : List Fact) (m : Machine) (t j : ℕ) → j < length fs → is_step_at fs t (hart_of m t).number j ≡ true
     → is_due_by fs m t ≡ are_passed_before fs m j

@@ -50,7 +50,7 @@ module _ (h : History) (honest : IsHonest h) where
   pub number-is : (j : ℕ) → j < length h.records → (record_at h.records j).number ≡ number_at (facts h) j
   number-is j below = placed.record-number h j (honest-numbered h honest) below
 
-  -- the place of what is found
+  -- the place of a found record
   pub record IsStepPlace (t number : ℕ) (r : Record) : Type 0 where
     pub at : ℕ
     pub below : at < length h.records
@@ -78,9 +78,9 @@ read-map (r ∷ rs) (suc j) = read-map rs j
 pub reads-at : (h : History) (j : ℕ) → read_at (reads_of h) j ≡ read_slots (record_at h.records j)
 reads-at h j = read-map h.records j
 
--- which steps have come, told by how many of each thread have
+-- which steps have come, by how many of each thread have
 
--- the places that have come are those of the first steps of each thread, so many as it has made
+-- the places that have come are those of the first steps of each thread, as many as it has made
 pub record IsMade (fs : List Fact) (come : List ℕ) (count : ℕ → ℕ) : Type 0 where
   pub to : (j : ℕ) → j < length fs → is_in j come ≡ true → number_at fs j < count (fact_at fs j).thread
   pub from : (j : ℕ) → j < length fs → number_at fs j < count (fact_at fs j).thread → is_in j come ≡ true

@@ -9,13 +9,13 @@ use Rattle.round_spec.specs.Reach.{is_reached, giver_end}
 abbrev pub reached_places : List Fact → List (List ℕ) → List ℕ → List ℕ
 reached_places fs reads pages = filter (λ j. is_reached fs reads pages j) (range_with_len 0 (length fs))
 
--- Who reads a changed page is reached, and the next step of its thread, whatever that reads; another thread's isn't.
+-- A step that reads a changed page is reached, and the next of its thread, whatever that reads; another thread's isn't.
 pub reach-thread :
     reached_places (quiet 1 ∷ quiet 2 ∷ quiet 1 ∷ quiet 1 ∷ []) ([] ∷ (9 ∷ []) ∷ (9 ∷ []) ∷ [] ∷ []) (9 ∷ [])
     ≡ 1 ∷ 2 ∷ 3 ∷ []
 reach-thread = refl
 
--- Where no page is changed, no step is reached.
+-- If no page is changed, no step is reached.
 pub reach-none : reached_places (quiet 1 ∷ quiet 1 ∷ []) ((9 ∷ []) ∷ (9 ∷ []) ∷ []) [] ≡ []
 reach-none = refl
 
@@ -50,7 +50,7 @@ waking = record (writes 1 (5 ∷ [])) { given = 1 ∷ 2 ∷ [] } ∷ quiet 2 ∷
 pub reach-waking : reached_places waking ((9 ∷ []) ∷ (5 ∷ []) ∷ (5 ∷ []) ∷ []) (9 ∷ []) ≡ 0 ∷ 1 ∷ []
 reach-waking = refl
 
--- It began with what the first step left, and the other reader with the start.
+-- It began with the memory after the first step, and the other reader with the start.
 pub giver-waking : giver_end waking 1 ∷ giver_end waking 2 ∷ [] ≡ 1 ∷ 0 ∷ []
 giver-waking = refl
 
@@ -75,7 +75,7 @@ pair_reads =
     (0 ∷ []) ∷ (0 ∷ 3 ∷ []) ∷ (0 ∷ []) ∷ (0 ∷ 4 ∷ []) ∷ (0 ∷ 1 ∷ []) ∷ (0 ∷ 1 ∷ []) ∷ (0 ∷ []) ∷ (0 ∷ []) ∷ (0 ∷ [])
     ∷ (0 ∷ []) ∷ (0 ∷ 1 ∷ []) ∷ (0 ∷ []) ∷ []
 
--- An edit of the second word reaches thread 2's steps, the put, and the exit behind it.
+-- An edit of the second word reaches thread 2's steps, the put, and the exit after it.
 pub reach-pair : reached_places pair pair_reads (4 ∷ []) ≡ 3 ∷ 5 ∷ 8 ∷ 10 ∷ 11 ∷ []
 reach-pair = refl
 

@@ -1,4 +1,4 @@
--- Along a whole round: what is executed is in each closed set, so it is reached.
+-- Along a whole round: each executed step is in each closed set, so it is reached.
 use Rattle.std.proofs.Common.{◌≡◌, ◌<◌, ◌≤◌, ℕ, zero, suc, Bool, true, false, List, [], length, get_or, Some, ap, ap₂, sym, ◌∙◌, subst, inl, inr, arith}
 use Rattle.std.proofs.lemmas.Bool.{cases_eq}
 use Rattle.std.specs.List.{AllByRecursion}

@@ -1,4 +1,4 @@
--- A round without an edit that goes on only by what is picked does what its history did.
+-- A round without an edit that continues only by its picks does what its history did.
 use Rattle.std.proofs.Common.{◌≡◌, ℕ, suc, Bool, true, false, List, [], ◌∷◌, ◌++◌, length, map, take, drop, Option, Some, is_some, refl, ap, sym, ◌∙◌, subst, append_assoc, append-nil, arith}
 use Rattle.std.proofs.Math.Seq.{take-append_seam}
 use Rattle.std.proofs.lemmas.Bool.{eqb-true}
@@ -86,14 +86,14 @@ replayed-length h w reused =
     let records = length-records w.records in
     omega arith
 
--- where it stands: after all of the history, or before its next record
+-- what comes next: nothing, after all of the history, or its next record
 data Replays (h : History) (w : RoundState) : Type 0 where
   Done : h.records ≡ w.records → is_some w.machine.ending ≡ true → Replays h w
   Next :
       (r : Record) (back : List Record) → h.records ≡ w.records ++ r ∷ back → IsWhole w.machine
       → IsNext (Some h) w.machine w.records r back → fits w.machine r ≡ true → Replays h w
 
--- what comes next, where it is known
+-- the next step, if it is known
 pub reused-next :
     (h : History) (w : RoundState) (r : Record) (back : List Record)
     → is_coherent h ≡ true → HasReused h w → h.records ≡ w.records ++ r ∷ back
@@ -163,7 +163,7 @@ replay-pick h w r back replays going whole next fit =
     (ap (λ (past : Option History). fits_next past w.machine r.thread) replays.reused.past
     ∙ next-fits (Some h) w.machine w.records r back next fit)
 
--- its place comes after all entries so far
+-- its place is the number of entries so far
 reused-place :
     (h : History) (w : RoundState) (r : Record) (back : List Record)
     → HasReused h w → IsNext (Some h) w.machine w.records r back
@@ -172,7 +172,7 @@ reused-place h w r back reused next =
     ap (λ (past : Option History). place_in past w.machine r.thread) reused.past
     ∙ next-place (Some h) w.machine w.records r back next ∙ replayed-length h w reused
 
--- so has the record of any entry that comes after it
+-- so was the place of a record that was reused, when it came next
 pub reused-placed :
     (h : History) (w v : RoundState) (r : Record)
     → is_coherent h ≡ true → HasReused h w → HasReused h v → v.records ≡ w.records ++ r ∷ []
@@ -185,7 +185,7 @@ reused-placed h w v r coherent reused after more =
     ∙ ap (λ (rs : List Record). rs ++ back) (sym after.records ∙ more)
     ∙ append_assoc w.records (r ∷ []) back))
 
--- and what is chosen while it replays its history
+-- and so is that of the thread that is chosen while it replays its history
 pub chosen-place :
     (h : History) (w : RoundState) (t : ℕ)
     → IsSetup h.setup → is_coherent h ≡ true → IsReplaying h w → is_finished w ≡ false
@@ -230,7 +230,7 @@ replayed-more h w r back replays split =
       discarded = replays.discarded;
     }
 
--- what picks and events have to do with each other
+-- how picks and events are related
 
 over-reuses_nothing : (p : Pick) (u : ℕ) → p ≡ pick.Over → goes_on_by p (Reuse u) ≡ true → ⊥
 over-reuses_nothing p u is goes = let impossible = rw is at goes in cc
@@ -268,7 +268,7 @@ reuse-replays h w u false replays (Next r back split whole next fit) is goes =
     fit))
     (replayed-more h w r back replays split))
 
--- the round replays its history from its start on, as long as it goes on by what is picked
+-- the round replays its history from its start on, as long as it continues by its picks
 pub replays-start : (h : History) → IsReplaying h (opening h.setup (Some h))
 replays-start h =
     record {
@@ -277,7 +277,7 @@ replays-start h =
       discarded = refl;
     }
 
--- without an edit since an honest history there is none since one that holds together
+-- a setup without an edit of an honest history is one without an edit of a coherent history
 pub unedited-repeats : (h : History) (setup : Setup) → IsUnedited h setup → Repeats h setup
 unedited-repeats h setup unedited =
     record { coherent = honest-coherent h unedited.honest; same = unedited.same }
@@ -308,7 +308,7 @@ replays-on h w Stop valid coherent replays goes =
       discarded = replays.discarded;
     })
 
--- what comes next is due, comes first, and is picked
+-- the next step is due, comes first, and is picked
 next-step :
     (h : History) (w : RoundState) (r : Record) (back : List Record)
     → IsReplaying h w → is_finished w ≡ false → IsWhole w.machine → IsNext (Some h) w.machine w.records r back
@@ -337,7 +337,7 @@ replays-next h w valid coherent replays going = by (where-it-stands h w valid co
     by (Done same ended) = absurd (let over = rw ended at going in cc)
     by (Next r back split whole next fit) = (r.thread, next-step h w r back replays going whole next fit)
 
--- by an honest history it was all reuse at its end
+-- if the history is honest, the round has only reused it at its end
 pub replays-end :
     (h : History) (w : RoundState)
     → IsHonest h → IsReplaying h w → is_some w.machine.ending ≡ true → OnlyReuses h w
@@ -368,7 +368,7 @@ replays-end h w honest replays ended =
     by (Next r back split whole next fit) =
         absurd (let none = can_step-none w.machine r.thread next.can in let impossible = rw none at ended in cc)
 
--- and on the way nothing is executed
+-- and until then nothing is executed
 pub replays-instructions :
     (h : History) (w : RoundState) → IsReplaying h w
     → instructions_from (first h.setup) w.schedule ≡ 0

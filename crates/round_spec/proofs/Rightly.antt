@@ -1,4 +1,4 @@
--- All that a round does which begins a step only where it was picked is picked rightly, by any number of workers.
+-- All that a round does which starts only picked steps is chosen by the rule, by any number of workers.
 use Rattle.std.proofs.Common.{◌≡◌, ◌≢◌, ◌⊎◌, ◌<◌, ◌≤◌, ℕ, Bool, true, false, cond, eqb, List, [], ◌∷◌, ◌++◌, length, length-append, get_or, set, Option, Some, None, refl, ap, sym, ◌∙◌, subst, inl, inr, arith}
 use Rattle.std.proofs.Math.Seq.{get_or-append_seam}
 use Rattle.std.proofs.lemmas.Bool.{cases_eq, cases_lt, eqb-true, ne_eqb}
@@ -28,7 +28,7 @@ use Rattle.round_spec.specs.Replaying.{goes_on_by}
 use Rattle.round_spec.proofs.Choosing.{choice_by-chosen}
 use Rattle.round_spec.proofs.Picked.{chosen-picked}
 
--- what is begun where it was picked was chosen
+-- a step that is started because it was picked was chosen
 
 take-chosen :
     (w : RoundState) (u : ℕ) → goes_on_by (pick_of w) (Take u) ≡ true → choice_by w.past w.machine w.in_flight ≡ Some u
@@ -64,7 +64,7 @@ reuse-chosen w u goes = by (is_finished w) (choice_by w.past w.machine w.in_flig
     by false None is goes = cc
     by false (Some t) is goes = is ∙ ap (λ (n : ℕ). Some n) (reuse t (fits_next w.past w.machine t) goes)
 
--- so it is picked rightly on the machine as it is
+-- so it is chosen by the rule on the machine as it is
 rightly-now :
     (w : RoundState) (u : ℕ) → IsInOrder w → choice_by w.past w.machine w.in_flight ≡ Some u
     → is_picked_on w.past w.machine u (hart_of w.machine u).number ≡ true
@@ -72,7 +72,7 @@ rightly-now w u kept chosen =
     chosen-picked w.past w.machine w.in_flight u (λ v raised. (kept.held v raised).unfit)
     (choice_by-chosen w.past w.machine w.in_flight u chosen)
 
--- the machine after so many entries
+-- the machine after the first entries
 
 after-more :
     (setup : Setup) (schedule : List Entry) (e : Entry) (n : ℕ) → n ≤ length schedule
@@ -90,7 +90,7 @@ after-now :
     → machine_after w.setup (w.schedule ++ e ∷ []) (length w.schedule) ≡ w.machine
 after-now w e s = after-more w.setup w.schedule e (length w.schedule) (omega arith) ∙ after-all w s
 
--- one entry more
+-- one more entry
 
 picked-longer :
     (setup : Setup) (past : Option History) (schedule : List Entry) (e : Entry) (i : ℕ) (d : Entry) (n : ℕ)
@@ -152,9 +152,9 @@ entries-more setup past schedule picked e n are last =
         (subst (λ (x : Entry). IsPicked setup past (schedule ++ e ∷ []) i x n) is
         (subst (λ (k : ℕ). IsPicked setup past (schedule ++ e ∷ []) k e n) place last))
 
--- who is in flight
+-- the threads in flight
 
--- at a schedule with an entry more and another number of the same value
+-- at a schedule with one more entry, and with another number of the same value
 in_flight-longer :
     (past : Option History) (setup : Setup) (schedule : List Entry) (e : Entry) (t n a b : ℕ)
     → n ≤ length schedule → b ≡ a
@@ -339,7 +339,7 @@ give_back-rightly :
 give_back-rightly w u true so_far = given_back-rightly w u so_far
 give_back-rightly w u false so_far = so_far
 
--- so it is after each event
+-- so the same holds after each event
 pub rightly-happens :
     (w : RoundState) (e : Event)
     → CanGoBy w.past w.setup → IsInOrder w → IsPickedSoFar w → goes_on_by (pick_of w) e ≡ true

@@ -1,4 +1,4 @@
--- Small rounds of the worked examples, and what is looked at of them.
+-- Small rounds of the worked examples, and what these look at.
 use Rattle.std.proofs.Common.{ℕ, Bool, true, false, List, [], ◌∷◌, filter, Option, Some}
 use Rattle.memory_spec.specs.Pages.{Memory}
 use Rattle.thunk_spec.specs.Thunk.{thunk}
@@ -11,15 +11,15 @@ use Rattle.history_spec.specs.History.{History}
 use Rattle.report_spec.specs.declared.Entry.{Entry}
 use Rattle.round_spec.specs.Rounds.{RoundState, none_in_flight, nothing_taken, is_in_flight}
 
--- a setup that nothing of the examples looks at
+-- a setup that the examples don't depend on
 abbrev pub some_setup : Setup
 some_setup = record { elf = []; input = []; fuel = 9; limit = 9 }
 
--- what is to be gone by: some records
+-- a history of some records
 abbrev pub past_of : List Record → Option History
 past_of records = Some (record { setup = some_setup; records = records })
 
--- a round at its start, which goes by some records
+-- a round at its start, based on some records
 abbrev pub starts : Machine → Option History → RoundState
 starts m past =
     record {
@@ -35,7 +35,7 @@ starts m past =
       stopped = false;
     }
 
--- the record of a thread's next step, whose stored bytes are given, since its masks are long
+-- the record of a thread's next step; its stored bytes are given, since its masks are long
 abbrev pub recorded : Machine → ℕ → List PageDelta → Record
 recorded m t delta =
     record {

@@ -42,7 +42,7 @@ unfolding step finished apply fits fits_at may_end put_of reads_of happens none_
     all_unlocked
 made-right = refl
 
--- A step whose record fits isn't executed: what is made has another schedule.
+-- A step whose record fits isn't executed: the round that is made has another schedule.
 pub made-executes :
     seen (all_happen goes_by (events_in (executes 0 ∷ executes 0 ∷ []))) ≡ ([], [], 0, false)
 unfolding step finished apply fits fits_at may_end put_of reads_of happens none_in_flight thunk turn fetched number_at
@@ -51,7 +51,7 @@ unfolding step finished apply fits fits_at may_end put_of reads_of happens none_
     all_unlocked
 made-executes = refl
 
--- A step that has no record isn't reused, nor is there one of a thread that isn't there yet.
+-- A step without a record isn't reused, nor is there one of a thread that doesn't exist yet.
 pub made-reuses :
     seen (all_happen goes_by (events_in (reuses 1 ∷ reuses 0 ∷ reuses 0 ∷ reuses 1 ∷ [])))
     ≡ (reuses 0 ∷ reuses 1 ∷ [], [], 0, false)
@@ -61,7 +61,7 @@ unfolding step finished apply fits fits_at may_end put_of reads_of happens none_
     all_unlocked
 made-reuses = refl
 
--- With nothing to go by main's three steps lead to the end, and after it nothing is made.
+-- Without a history, main's three steps lead to the end, and after it nothing is made.
 pub made-ended :
     seen (all_happen (starts (begins 9 9 late) None)
     (events_in (executes 0 ∷ executes 0 ∷ executes 0 ∷ executes 1 ∷ [])))
@@ -76,7 +76,7 @@ and-false : (b : Bool) → (b && false) ≡ false
 and-false true = refl
 and-false false = refl
 
--- With nothing to go by no mark of reuse stands, whatever the setup is.
+-- Without a history, no mark of reuse holds, whatever the setup is.
 pub by-nothing : (setup : Setup) (t : ℕ) → round_by setup None (reuses t ∷ []) ≡ opening setup None
 by-nothing setup t = happens-reuse_not (opening setup None) t (and-false (can_begin (opening setup None) t))
 

@@ -1,4 +1,4 @@
--- A closed set of steps along another order: what a step of the set writes comes to those alone that are in the set.
+-- A closed set of steps along another order: what a step of the set writes comes only to those in the set.
 use Rattle.std.proofs.Common.{◌≡◌, ◌<◌, ◌≤◌, ℕ, zero, suc, Bool, true, false, ◌&&◌, ◌||◌, not, eqb, leb, List, [], ◌∷◌, length, refl, ap, sym, ◌∙◌, subst, inl, inr, ◌⊎◌, arith}
 use Rattle.std.proofs.lemmas.Bool.{cases_eq, cases_lt, eq-eqb, eqb-true}
 use Rattle.std.proofs.lemmas.Bool.Decides.{nat_tests}
@@ -36,7 +36,7 @@ opens-before fs i j p opens writes =
     (or-in_left (meets (fact_at fs i).opened (fact_at fs j).written) (fact_at fs j).last
     (meets-of p (fact_at fs i).opened (fact_at fs j).written opens writes))))))
 
--- the steps of a set, told by thread and number
+-- the steps of a set, given by thread and number
 abbrev pub among_steps : List Fact → (ℕ → Bool) → ℕ → ℕ → Bool
 among_steps fs among t k = all_below (λ j. not (is_step_at fs t k j) || among j) (length fs)
 

@@ -1,5 +1,5 @@
--- Two setups of one program start as machines that are near each other: their start memories differ on the changed
--- pages alone.
+-- Two setups of one program start as machines that are near each other: their start memories differ only on the changed
+-- pages.
 --
 use Rattle.std.proofs.Common.{◌≡◌, ◌<◌, ◌≤◌, ◌+◌, ℕ, zero, suc, Bool, true, false, not, eqb, cond, List, [], ◌∷◌, length, filter, refl, ap, sym, ◌∙◌, inl, inr, arith}
 use Rattle.std.proofs.lemmas.Bool.{cases_lt, cases_eq, eq-eqb}
@@ -27,7 +27,7 @@ same-size : (a b : Setup) → IsSameProgram a b → length (start_memory b) ≡ 
 same-size a b same =
     (IsMemory-start b).count ∙ ap (λ (m : List _). length m) (same-map a b same) ∙ sym (IsMemory-start a).count
 
--- what a filter leaves out
+-- what a filter doesn't keep
 left-out :
     (test : ℕ → Bool) (n k p : ℕ) → k ≤ p → p < k + n → is_in p (filter test (range_with_len k n)) ≡ false
     → test p ≡ false
@@ -74,7 +74,7 @@ same-frame : (a b : Setup) → IsSameProgram a b → a.fuel ≡ b.fuel → (firs
 unfolding first map_of
 same-frame a b same fuel = rw (same, fuel) refl
 
--- the start memories differ on the changed pages alone
+-- the start memories differ only on the changed pages
 pub unchanged-start :
     (a b : Setup) (p : ℕ) → IsSameProgram a b → is_in p (changed a b) ≡ false
     → page_of (start_memory b) p ≡ page_of (start_memory a) p

@@ -1,4 +1,4 @@
--- The facts without pages have the first cases of the order alone, and clocks tell it.
+-- The facts without pages have only the first cases of the order, and clocks determine it.
 use Rattle.std.proofs.Common.{◌≡◌, ◌<◌, ◌≤◌, ◌+◌, ℕ, zero, suc, Bool, true, false, ◌&&◌, ◌||◌, not, eqb, ltb, leb, cond, List, [], ◌∷◌, refl, ap, ap₂, sym, ◌∙◌, inl, inr, arith}
 use Rattle.std.proofs.lemmas.Bool.{cases_lt}
 use Rattle.std.proofs.lemmas.Bool.Decides.{nat_tests}
@@ -40,7 +40,7 @@ before-by f g next =
     || (overlap f.objects g.objects
     || (meets f.written g.written || (meets f.written g.opened || (meets f.opened g.written || g.last)))))
 
--- the first cases alone
+-- the first cases only
 pub before-sync :
     (fs : List Fact) (i j : ℕ)
     → before_at (sync_facts fs) i j
@@ -133,7 +133,7 @@ within-tells fs (suc g) i =
     ∙ ap₂ (λ (n t : ℕ). ltb n (clock_at (sync_facts fs) g t)) (number-sync fs i)
     (ap (λ (f : Fact). f.thread) (at-sync fs i))
 
--- a step comes before a thunk where its number is below what the thunk's view counts
+-- a step comes before a thunk exactly if its number is below what the thunk's view counts
 pub ordered-tells :
     (fs : List Fact) (i j : ℕ) → is_ordered fs i j ≡ ltb (number_at fs i) (seen_at fs j (fact_at fs i).thread)
 unfolding is_ordered seen_at

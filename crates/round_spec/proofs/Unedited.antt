@@ -95,7 +95,7 @@ not-begun (pick.Reuse t) never = refl
 not-begun pick.Hold never = refl
 not-begun pick.Over never = refl
 
--- where no step is picked to be executed, none is begun
+-- if no step is picked to be executed, none is started
 none-begun : (n : ℕ) (w : RoundState) → ((k u : ℕ) → pick_of (after_picks k w) ≢ pick.Run u) → begun_in n w ≡ []
 none-begun zero w never = refl
 none-begun (suc n) w never =
@@ -105,7 +105,7 @@ none-begun (suc n) w never =
 pub unedited-begun : (h : History) → IsHonest h → begun h.setup (Some h) ≡ []
 unedited-begun h honest = none-begun h.setup.limit (opening h.setup (Some h)) (λ k u. unedited-never_runs h k u honest)
 
--- reused records count for nothing
+-- reused records don't count
 pub reused-executed :
     (ts : List ℕ) (rs : List Record)
     → executed_instructions (map (λ t. record { thread = t; reused = true }) ts) rs ≡ 0
@@ -113,7 +113,7 @@ reused-executed [] rs = refl
 reused-executed (t ∷ ts) [] = refl
 reused-executed (t ∷ ts) (r ∷ rs) = let rest = reused-executed ts rs in omega arith
 
--- so the round is all reuse
+-- so the round only reuses the history
 pub unedited-reuses : (h : History) → IsHonest h → OnlyReuses h (lone_round h.setup (Some h))
 unedited-reuses h honest =
     subst (OnlyReuses h) (sym (unedited-round h honest))

@@ -34,7 +34,7 @@ reused-both = refl
 pub reused-one : is_all_reused (reuses 0 ∷ executes 1 ∷ []) ≡ false
 reused-one = refl
 
--- a record of a thread that made so many turns
+-- a record of a thread that made this number of turns
 abbrev counts : ℕ → ℕ → Record
 counts t count =
     record {
@@ -54,7 +54,7 @@ pub executed-two :
     executed_instructions (executes 1 ∷ reuses 0 ∷ executes 1 ∷ []) (counts 1 5 ∷ counts 0 7 ∷ counts 1 11 ∷ []) ≡ 16
 executed-two = refl
 
--- A round that discarded a step isn't all reuse, nor is one that executed any.
+-- A round that discarded a step doesn't only reuse, nor does one that executed any.
 pub discards-something : (h : History) (w : RoundState) → OnlyReuses h (record w { discarded = 1 }) → ⊥
 discards-something h w only = let none : 1 ≡ 0 = only.discarded in cc
 

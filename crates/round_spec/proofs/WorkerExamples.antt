@@ -44,7 +44,7 @@ two = step one 0
 abbrev three : Machine
 three = step two 1
 
--- what was done in the order 0, 0, 1, 0, which isn't that of one worker with nothing to go by
+-- the steps made in the order 0, 0, 1, 0, which isn't that of one worker without a history
 abbrev main_first : Option History
 main_first =
     past_of
@@ -74,7 +74,7 @@ unfolding none_in_flight is_due free_threads least_by best choice_by pick_of fir
     put_addresses loaded may_store bytes_stored with_byte first_registers all_unlocked
 executed-main_first = refl
 
--- With nothing to go by all is executed: 5 instructions to create, 5 to store, 4 to load, 2 to end, 6 to exit.
+-- Without a history, all is executed: 5 instructions to create, 5 to store, 4 to load, 2 to end, 6 to exit.
 pub executed-alone : executed_in 9 (starts (begins 9 9 late) None) ≡ 22
 unfolding none_in_flight is_due free_threads least_by best choice_by pick_of first entry_of u32_at happens step finished apply
     fits fits_at may_end put_of reads_of thunk turn fetched number_at number_in permission_at decoded reading_of
@@ -82,7 +82,7 @@ unfolding none_in_flight is_due free_threads least_by best choice_by pick_of fir
     put_addresses loaded may_store bytes_stored with_byte first_registers all_unlocked
 executed-alone = refl
 
--- So much in the first two picks.
+-- This many in the first two picks.
 pub executed-two : executed_in 2 (starts (begins 9 9 late) None) ≡ 10
 unfolding none_in_flight is_due free_threads least_by best choice_by pick_of first entry_of u32_at happens step finished apply
     fits fits_at may_end put_of reads_of thunk turn fetched number_at number_in permission_at decoded reading_of
@@ -107,7 +107,7 @@ unfolding none_in_flight is_due free_threads least_by best choice_by pick_of fir
     put_addresses loaded may_store bytes_stored with_byte first_registers all_unlocked
 executed-edited = refl
 
--- Without an edit no step is begun; with nothing to go by each is, in order; after the edit the first is.
+-- Without an edit, no step is started; without a history, each is, in order; after the edit, the first is.
 pub begun-main_first : begun_in 9 (starts (begins 9 9 late) main_first) ≡ []
 unfolding none_in_flight is_due free_threads least_by best choice_by pick_of first entry_of u32_at happens step finished apply
     fits fits_at may_end put_of reads_of thunk turn fetched number_at number_in permission_at decoded reading_of
@@ -136,23 +136,23 @@ unfolding none_in_flight is_due free_threads least_by best choice_by pick_of fir
     put_addresses loaded may_store bytes_stored with_byte first_registers all_unlocked
 begun-edited = refl
 
--- The round of the smallest history's own setup is all reuse of it.
+-- The round of the smallest history's own setup only reuses it.
 pub only-reuses : OnlyReuses only_step (lone_round shortest (Some only_step))
 only-reuses = unedited-reuses only_step only-honest
 
--- What was picked to be reused may be reused, and nothing else may be begun.
+-- A step that was picked to be reused may be reused, and nothing else may be started.
 pub goes-reuse :
     map (goes_on_by (pick.Reuse 1)) (Reuse 1 ∷ Reuse 2 ∷ Take 1 ∷ Commit 3 ∷ GiveBack 3 ∷ Stop ∷ [])
     ≡ true ∷ false ∷ false ∷ true ∷ true ∷ true ∷ []
 goes-reuse = refl
 
--- So it is with what was picked to be executed.
+-- The same holds of a step that was picked to be executed.
 pub goes-run :
     map (goes_on_by (pick.Run 1)) (Take 1 ∷ Take 2 ∷ Reuse 1 ∷ Commit 3 ∷ GiveBack 3 ∷ Stop ∷ [])
     ≡ true ∷ false ∷ false ∷ true ∷ true ∷ true ∷ []
 goes-run = refl
 
--- Who has to wait begins nothing, and after the end nobody does.
+-- A worker that has to wait starts nothing, and after the end none does.
 pub goes-hold :
     map (goes_on_by pick.Hold) (Take 0 ∷ Reuse 0 ∷ Commit 0 ∷ GiveBack 0 ∷ Stop ∷ [])
     ≡ false ∷ false ∷ true ∷ true ∷ true ∷ []

@@ -1,5 +1,5 @@
--- Rounds that workers make: that of one worker is the one that its schedule makes, entry by entry; by a sound history
--- it is the one from scratch; and without an edit it is all reuse.
+-- Rounds that workers make: that of one worker is the one that its schedule makes, entry by entry; if the history is
+-- sound, it is the one from scratch; and without an edit it only reuses the history.
 use Rattle.std.proofs.Common.{◌≡◌, ◌<◌, ℕ, zero, suc, Bool, true, false, not, cond, List, [], ◌∷◌, ◌++◌, length, sum, Option, Some, None, is_some, refl, ap, sym, ◌∙◌, subst, arith}
 use Rattle.std.specs.List.{range_with_len}
 use Rattle.thunk_spec.specs.Record.{Record}
@@ -34,7 +34,7 @@ use Rattle.round_spec.proofs.Replay.{threads-reused, length-threads, replays-end
 
 -- the round of one worker
 
--- what a pick comes to where nobody is in flight: nothing, or one entry more
+-- what a pick makes with no thread in flight: nothing, or one more entry
 data Makes (w v : RoundState) : Type 0 where
   Nothing : v ≡ w → Makes w v
   Entry_more : (e : Entry) → v.schedule ≡ w.schedule ++ e ∷ [] → v ≡ all_happen w (events_of e) → Makes w v
@@ -179,7 +179,7 @@ ended-made workers w worker_steps many is ended each steps replays rightly =
       picked = λ sound. (w.picked, (rightly sound).entries);
     }
 
--- a round whose parts are these
+-- two rounds with the same parts
 by-parts :
     (w : RoundState) (setup : Setup) (past : Option History) (m : Machine) (es : List Entry) (rs : List Record)
     (picked : List ℕ)

@@ -1,4 +1,4 @@
--- What workers make of a round: some workers make one, whoever makes its steps, and rounds that no workers make.
+-- What workers make of a round: some workers make one, however its steps are divided; and rounds that no workers make.
 use Rattle.std.proofs.Common.{◌≡◌, ℕ, true, false, List, [], ◌∷◌, length, Option, Some, None, refl, ap, sym, ◌∙◌, arith}
 use Rattle.machine_spec.specs.Setup.{Setup, first}
 use Rattle.history_spec.specs.History.{History, schedule_of}
@@ -15,7 +15,7 @@ use Rattle.round_spec.specs.Workers.{IsMadeBy}
 use Rattle.round_spec.proofs.Unedited.{reused-all}
 use Rattle.round_spec.proofs.Workers.{lone-made, workers-reuse}
 
--- the smallest round with nothing to go by, and without an edit
+-- the smallest round without a history, and without an edit
 abbrev first-entries : List Entry
 first-entries = (lone_round shortest None).schedule
 
@@ -34,7 +34,7 @@ made-by_three =
     lone-made 3 shortest None (0 ∷ length first-entries ∷ 0 ∷ []) shortest-setup refl
     (let n = length first-entries in omega arith)
 
--- So they do without an edit, and their round is all reuse.
+-- So they do without an edit, and their round only reuses the history.
 pub made-again : IsMadeBy 2 shortest (Some only_step) again-entries (length again-entries ∷ 0 ∷ [])
 made-again =
     lone-made 2 shortest (Some only_step) (length again-entries ∷ 0 ∷ []) shortest-setup refl
@@ -44,12 +44,12 @@ pub reuses-again : OnlyReuses only_step (round_by shortest (Some only_step) agai
 reuses-again =
     workers-reuse 2 only_step shortest again-entries (length again-entries ∷ 0 ∷ []) unedited-only made-again
 
--- A mark of reuse with nothing to go by doesn't stand.
+-- A mark of reuse without a history doesn't hold.
 pub wrong-mark : (n : ℕ) (setup : Setup) (t : ℕ) (worker_steps : List ℕ) → IsMadeBy n setup None (reuses t ∷ []) worker_steps → ⊥
 wrong-mark n setup t worker_steps made =
     let empty : [] ≡ reuses t ∷ [] = ap (λ (w : RoundState). w.schedule) (sym (by-nothing setup t)) ∙ made.stands in cc
 
--- A round that nothing was made of has no end.
+-- A round without a step has no end.
 pub no-end : (n : ℕ) (setup : Setup) (past : Option History) (worker_steps : List ℕ) → IsMadeBy n setup past [] worker_steps → ⊥
 unfolding first
 no-end n setup past worker_steps made = let ended : false ≡ true = made.ended in cc
@@ -57,7 +57,7 @@ no-end n setup past worker_steps made = let ended : false ≡ true = made.ended 
 not-both : (n : ℕ) → n ≡ 1 → n ≡ 2 → ⊥
 not-both n one two = omega arith
 
--- There is a number of steps for each worker, and all steps are shared out, but no more.
+-- There is a number of steps for each worker, and they add up to all steps.
 pub wrong-share_count :
     (setup : Setup) (past : Option History) (entries : List Entry) → IsMadeBy 2 setup past entries (1 ∷ []) → ⊥
 wrong-share_count setup past entries made = not-both 1 refl made.each

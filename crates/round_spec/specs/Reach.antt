@@ -75,7 +75,7 @@ changed a b = changed_slots (start_memory a) (start_memory b)
 abbrev pub reached_of : History → Setup → List Bool
 reached_of h setup = reach (facts h) (reads_of h) (changed h.setup setup)
 
--- How many steps of the history that a round is based on its setup reaches, and 0 if there is no history.
+-- Of the history that a round is based on, the number of steps that the round's setup reaches; 0 without a history.
 abbrev pub reached_count : Option History → Setup → ℕ
 reached_count None setup = 0
 reached_count (Some h) setup = count_by (λ (flag : Bool). flag) (reached_of h setup)

@@ -23,7 +23,7 @@ pub record Fits (base filesz memsz : ℕ) : Type 0 where
   pub few : memsz ≤ 0x400000
   pub within : filesz ≤ memsz
 
--- what follows of the numbers' sizes
+-- what follows from the sizes of the numbers
 pub base_fits : (base filesz memsz : ℕ) → Fits base filesz memsz → base < 2 ^ 32
 base_fits base filesz memsz fits = let high = fits.high in omega arith
 

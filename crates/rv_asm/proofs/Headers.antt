@@ -1,4 +1,4 @@
--- What the fields of a guest's file are read as.
+-- How the fields of a guest's file are read.
 use Rattle.std.proofs.Common.{cond, filter, ◌≡◌, ℕ, ◌+◌, ◌<◌, ◌^◌, List, [], ◌∷◌, ◌++◌, length, slice_index, refl, ap, ◌∙◌, length-append}
 use Rattle.std.proofs.lemmas.List.{get_or-append-add}
 use Rattle.std.proofs.lemmas.Bool.{lt-ltb}

@@ -11,7 +11,7 @@ use Rattle.rv_asm.proofs.Headers.{guest_segment, byte-file, entry-file}
 use Rattle.rv_asm.proofs.Pages.{mapped, pages-one}
 use Rattle.rv_asm.proofs.Accepted.{Fits, base_fits, file, one_segment, accepted}
 
--- the same addresses, by the segment's bytes and by what stands there
+-- the same addresses, by the segment's bytes and by their place
 same_place :
     (base filesz memsz address : ℕ) → filesz ≤ memsz
     → ((nat_le base address && nat_lt address (base + memsz)) && nat_lt (address - base) filesz)

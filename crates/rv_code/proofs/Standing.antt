@@ -50,7 +50,7 @@ pub stands_for_its_own :
 stands_for_its_own address word o i known means fits =
     stands_alike address word o i i known means (λ map memory r at zero. refl) fits
 
--- the operation that only goes on
+-- the operation that does nothing but continue
 abbrev pub nothing : Operation
 nothing = record { kind = kind.Nothing; rd = 0; rs1 = 0; rs2 = 0; imm = 0 }
 

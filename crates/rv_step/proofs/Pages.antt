@@ -1,4 +1,4 @@
--- A page that runs goes on to run while nothing is stored to it.
+-- A page that is executed can still be executed while nothing is stored to it.
 use Rattle.std.proofs.Common.{◌≡◌, ◌≢◌, ℕ, ◌+◌, ◌*◌, ◌/◌, ◌%◌, ◌<◌, ◌≤◌, ◌==◌, Bool, true, false, cond, zero, suc, subst, slice_index_or, Option, None, List, [], ◌∷◌, length, set, get_or, Some, refl, ap, sym, ◌∙◌, eqb-true, arith}
 use Rattle.std.proofs.lemmas.List.{get_or-set_other, set-set, set_comm}
 use Rattle.std.proofs.lemmas.Bool.Decides.{nat_tests}
@@ -171,7 +171,7 @@ store-executes w after number index r kind size rs1 rs2 imm address value sized 
 word_at-plain : (number index : ℕ) → number < PAGE_NUMBERS → index < 1024 → word_at number index ≡ number * 4096 + 4 * index
 word_at-plain number index few within = omega arith
 
--- the permission turns on the page's number alone
+-- the permission depends on the page's number alone
 pub permission_at-page :
     (map : List Mapped) (a b : ℕ) → a / 4096 ≡ b / 4096 → permission_at map a ≡ permission_at map b
 unfolding permission_at
@@ -206,7 +206,7 @@ unfolding turn
 fetched-turn w bytes number index r i runs few within same =
     rw (word_at-aligned number index, fetched-word w bytes number index runs few within, same) refl
 
--- an instruction that was executed in a page that runs is a turn
+-- an instruction that was executed in such a page is a turn
 executed-turn :
     (w after : Workspace) (bytes : List ℕ) (number index : ℕ) (r registers : Registers) (i : Instr)
     → RunsFrom w number bytes → number < PAGE_NUMBERS → index < 1024
@@ -228,7 +228,7 @@ executed-turn w after bytes number index r registers i runs few within same made
           (sym mark);
     }
 
--- what an operation of a page that runs made is a turn
+-- what an operation of such a page does is a turn
 pub operation-turn :
     (c : Decoded) (w after : Workspace) (index : ℕ) (r registers : Registers) (o : Option Instr)
     → IsCodeOf c → RunsFrom w c.number c.bytes → index < 1024 → register r 0 ≡ 0
@@ -241,7 +241,7 @@ operation-turn c w after index r registers (Some i) code runs within empty stand
     executed-turn w after c.bytes c.number index r registers i runs code.number within
     ((code.words index within).same w.map w.memory (at_word c.number index r) i (rw (← plain) stands) plain empty) made
 
--- behind the last word nothing is executed
+-- after the last word nothing is executed
 pub operation-within :
     (c : Decoded) (w after : Workspace) (index : ℕ) (r registers : Registers) (address : ℕ)
     → IsCodeOf c → index ≤ 1024
@@ -276,7 +276,7 @@ pub follow-more :
 follow-more n k first w after start r registers is made last =
     rw is (follow-last n first w after start r registers made last)
 
--- what an operation made, by its page and its index there
+-- what an operation does, by its page and its index there
 pub placed-executes :
     (c : Decoded) (p : Placed) (index : ℕ) (w after : Workspace) (r registers : Registers)
     → operation_of p ≡ slice_index_or c.operations index other → p.number ≡ c.number → p.index ≡ index
@@ -285,7 +285,7 @@ pub placed-executes :
     after registers
 placed-executes c p index w after r registers is numbered indexed made = rw (← is, ← numbered, ← indexed) made
 
--- an operation that leads on stands before the end of its page
+-- an operation after which the page continues is before the end of its page
 pub placed-within :
     (c : Decoded) (p : Placed) (index : ℕ) (w after : Workspace) (r registers : Registers)
     → IsCodeOf c → operation_of p ≡ slice_index_or c.operations index other → p.number ≡ c.number → p.index ≡ index
@@ -296,7 +296,7 @@ placed-within c p index w after r registers code is numbered indexed few made =
     operation-within c w after index (at_word c.number index r) registers (word_at c.number index) code few
     (placed-executes c p index w after r registers is numbered indexed made)
 
--- and it is a turn more
+-- and it is one more turn
 pub placed-more :
     (c : Decoded) (p : Placed) (index n k : ℕ) (first w after : Workspace) (start r registers : Registers)
     → IsCodeOf c → operation_of p ≡ slice_index_or c.operations index other → p.number ≡ c.number → p.index ≡ index

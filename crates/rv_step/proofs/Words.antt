@@ -1,4 +1,4 @@
--- Operations of a page that have nothing to do with memory do what their instructions do.
+-- Operations of a page that don't access memory do what their instructions do.
 use Rattle.std.proofs.Common.{◌≡◌, ℕ, slice_set, ◌+◌, ◌/◌, ◌%◌, ◌^◌, ◌<◌, ◌==◌, true, false, cond, [], Some, refl, ap, sym, ◌∙◌, eq-eqb, arith}
 use Rattle.isa_spec.specs.declared.Instr.{Instr}
 use Rattle.isa_spec.specs.declared.ShiftOperation.{ShiftOperation}
@@ -15,11 +15,11 @@ use Rattle.rv_step.specs.declared.placed.Flow.TheVariants as flow
 use Rattle.rv_step.specs.declared.placed.Placed.{Placed}
 use Rattle.rv_step.specs.Paging.{word_at, at_word, instr_placed, Executes, Leads}
 
--- the word behind a word stands 4 bytes behind it
+-- the word after a word is 4 bytes after it
 pub word_at-next : (number index : ℕ) → sum_of (word_at number index) 4 ≡ word_at number (index + 1)
 word_at-next number index = omega arith
 
--- a write to a register leaves the pc
+-- a write to a register keeps the pc
 pub with_register-pc :
     (r : Registers) (n value pc : ℕ) → with_register (with_pc r pc) n value ≡ with_pc (with_register r n value) pc
 unfolding with_register
@@ -30,7 +30,7 @@ with_register-pc r n value pc =
     ≡ with_pc (cond b r (record { pc = r.pc; x = slice_set r.x n value })) pc)
     [ true ↦ refl | false ↦ refl ]
 
--- an instruction that computes, and goes on at the next word
+-- an instruction that computes, and continues at the next word
 pub computed-next :
     (w : Workspace) (number index : ℕ) (r registers : Registers) (rd value : ℕ) (i : Instr)
     → registers ≡ with_register r rd value
@@ -45,7 +45,7 @@ computed-next w number index r registers rd value i are does =
       workspace_is = rw does refl;
     }
 
--- an operation that computes leads on
+-- after an operation that computes, the page continues
 pub computed-leads :
     (p : Placed) (r registers : Registers) (rd value : ℕ) (i : Instr) (f : Flow)
     → f ≡ flow.Next → instr_placed p ≡ Some i
@@ -59,7 +59,7 @@ computed-leads p r registers rd value i f next stands are does w =
 mod_twice : (n : ℕ) → n % 32 % 32 ≡ n % 32
 mod_twice n = omega arith
 
--- of a shift's amount the low five bits count
+-- only the low five bits of a shift's amount count
 pub shift_result-low :
     (s : ShiftOperation) (a amount : ℕ) → shift_result s a (amount % 32) ≡ shift_result s a amount
 unfolding shift_result
@@ -67,7 +67,7 @@ shift_result-low shift.LeftLogical a amount = rw (mod_twice amount) refl
 shift_result-low shift.RightLogical a amount = rw (mod_twice amount) refl
 shift_result-low shift.RightArithmetic a amount = rw (mod_twice amount) refl
 
--- an instruction that leads on and has nothing to do with memory
+-- an instruction after which the page continues, and that doesn't access memory
 pub passed-executes :
     (w : Workspace) (before after : Registers) (i : Instr)
     → executed w.map w.memory before i ≡ passed after [] [] → Executes (Some i) w before w after
@@ -117,7 +117,7 @@ pub linked-pc :
 linked-pc r rd number index target =
     rw (with_register-pc r rd (sum_of (word_at number index) 4) (word_at number index), word_at-next number index) refl
 
--- nothing is linked to x0
+-- no link is written to x0
 pub linked-zero : (r : Registers) → linked r 0 ≡ r
 unfolding with_register
 linked-zero r = refl

@@ -16,7 +16,7 @@ use Rattle.thunk_spec.specs.declared.ends.Outcome.{Outcome}
 use Rattle.thunk_spec.specs.Turn.{Turn, executed, load_found, load_size, store_size}
 use Rattle.rv_step.specs.Paging.{Executes}
 
--- A turn leaves zero in x0.
+-- A turn keeps zero in x0.
 record LeavesZero (t : Turn) : Type 0 where
   zero : register t.regs 0 ≡ 0
 
@@ -74,7 +74,7 @@ executed-zero map memory r instr.Fence zero = kept r zero
 executed-zero map memory r instr.Ecall zero = kept r zero
 executed-zero map memory r instr.Ebreak zero = kept r zero
 
--- nor does an instruction that was executed leave another there
+-- and so does an instruction that was executed
 pub executes-zero :
     (o : Option Instr) (w after : Workspace) (r registers : Registers) → register r 0 ≡ 0
     → Executes o w r after registers → register registers 0 ≡ 0

@@ -29,7 +29,7 @@ no_digit mark rest d (inr (inr plus)) digit e =
     let not : is_ascii_digit 43 ≡ true = subst (λ (c : ℕ). is_ascii_digit c ≡ true) is digit in
     cc
 
--- digits before a mark are found again
+-- the digits before a mark are determined
 pub one_front :
     (xs ys a b : List ℕ) → AreDigits xs → AreDigits ys → IsMark a → IsMark b → xs ++ a ≡ ys ++ b
     → xs ≡ ys
@@ -55,7 +55,7 @@ one_thread token a b p q =
     one_number a b (let few : a < THREADS = p.0 in omega arith) q.0
     (one_front (decimal a) (decimal b) p.1 q.1 (digits_of a p.0) (digits_of b q.0) p.2 q.2 (sym p.3 ∙ q.3))
 
--- what stands before the mark of a token, where digits stand there
+-- the part of a token before its mark, if that part is digits
 abbrev pub IsFront : List ℕ → List ℕ → Type 0
 IsFront token front =
     (digits mark : List ℕ) → list_all is_ascii_digit digits ≡ true → 0 < length digits → IsMark mark

@@ -1,4 +1,4 @@
--- Worked examples. What is expected follows by hand.
+-- Worked examples. The expected values follow by hand.
 use Rattle.std.proofs.Common.{◌≡◌, ◌<◌, [], ◌∷◌, Ok, Err, inl, inr, refl, sym, ap, ◌∙◌, lit<, arith}
 use Rattle.std.specs.Prelude.{codes, decimal}
 use Rattle.std.specs.Fmt.{digits}
@@ -32,7 +32,7 @@ thread_32_is_none (thread, encoded) =
     let few : thread < 32 = encoded.0 in
     omega arith
 
--- a zero before a number is none of its digits
+-- a number has no leading zero
 pub leading_zero_is_none : IsEncoding (codes "01") → ⊥
 unfolding digits
 leading_zero_is_none (thread, encoded) =
@@ -44,7 +44,7 @@ leading_zero_is_none (thread, encoded) =
     let one : codes "01" ≡ decimal 1 = same ∙ sym (ap decimal value) in
     cc
 
--- spaces and newlines in any number stand between tokens
+-- any number of spaces and newlines may separate tokens
 pub schedule_is_said : Says (codes " 0\n\n31= 7+\n") (Ok (0 ∷ 31 ∷ 7 ∷ []))
 unfolding tokens
 schedule_is_said = (number_is_encoded, (reused_is_encoded, (executed_is_encoded, tt)))

@@ -1,4 +1,4 @@
--- The schedule line of a report says the threads of its entries.
+-- The schedule line of a report encodes the threads of its entries.
 use Rattle.std.proofs.Common.{◌≡◌, ℕ, ◌<◌, Bool, true, false, if◌then◌else◌, List, [], ◌∷◌, ◌++◌, length, flat_map, map, inl, inr, refl, sym, ap, subst, ◌∙◌, All, arith, append_assoc}
 use Rattle.std.specs.Prelude.{codes, decimal, Ok}
 use Rattle.std.specs.List.{AllZip, list_all}
@@ -41,7 +41,7 @@ no_gap-digits (d ∷ ds) mark digits none =
 no_gap-entry : (e : Entry) → e.thread < THREADS → All NoGap (entry_text e)
 no_gap-entry e few = no_gap-digits (decimal e.thread) (mark_text e.reused) (digits_of e.thread few) (no_gap-mark e.reused)
 
--- what is written of entries, each behind a space, and the line's end
+-- what is written of entries, each after a space, and the line's end
 abbrev line_of : List Entry → List ℕ
 line_of schedule = flat_map (λ (e : Entry). space ++ entry_text e) schedule ++ newline
 
@@ -53,12 +53,12 @@ filled (d ∷ ds) mark more some = refl
 filled-entry : (e : Entry) (more : List (List ℕ)) → e.thread < THREADS → with_piece (entry_text e) more ≡ entry_text e ∷ more
 filled-entry e more few = filled (decimal e.thread) (mark_text e.reused) more (decimal_nonempty e.thread (omega arith))
 
--- no byte has no token
+-- no bytes have no token
 tokens-nil : tokens [] ≡ []
 unfolding tokens
 tokens-nil = refl
 
--- the tokens of a line, behind bytes without a gap
+-- the tokens of a line, after bytes without a gap
 tokens-line :
     (front : List ℕ) (schedule : List Entry) → All NoGap front → All (λ t. t < THREADS) (threads_of schedule)
     → tokens (front ++ line_of schedule) ≡ with_piece front (map entry_text schedule)

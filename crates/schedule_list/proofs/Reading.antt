@@ -11,12 +11,12 @@ use Rattle.schedule_list.specs.Refusals.{WhyNotAdded, WhyNotParsed}
 use Rattle.schedule_list.specs.declared.parser.ParseError.{ParseError}
 use Rattle.schedule_list.specs.declared.parser.ParseError.TheVariants.{BadToken, NoMemory}
 
--- a piece before tokens: an empty one is none
+-- a piece before tokens: an empty one is no token
 abbrev pub with_piece : List ℕ → List (List ℕ) → List (List ℕ)
 with_piece [] tokens = tokens
 with_piece (byte ∷ piece) tokens = (byte ∷ piece) ∷ tokens
 
--- the tokens of pieces, the first taken off
+-- the tokens of pieces, by the first piece and the others
 first_piece :
     (piece : List ℕ) (pieces : List (List ℕ))
     → filter is_filled (piece ∷ pieces)
@@ -39,7 +39,7 @@ unfolding tokens
 tokens-last piece none =
     ap (filter is_filled) (slice_split_none is_gap piece none) ∙ first_piece piece []
 
--- of a text the tokens before these were read, and they encode these threads
+-- the tokens of a text before these were read, and they encode these threads
 pub record HasRead (text : List ℕ) (more : List (List ℕ)) (threads : List ℕ) : Type 0 where
   pub before : List (List ℕ)
   pub cut : tokens text ≡ before ++ more
@@ -49,7 +49,7 @@ pub record HasRead (text : List ℕ) (more : List (List ℕ)) (threads : List �
 pub nothing_read : (text : List ℕ) → HasRead text (tokens text) []
 nothing_read text = record { before = []; cut = refl; encoded = tt }
 
--- one piece more was read
+-- one more piece was read
 pub piece_read :
     (text piece : List ℕ) (more : List (List ℕ)) (before after : List ℕ) → HasRead text (with_piece piece more) before
     → AddsToken piece before after
@@ -69,7 +69,7 @@ pub all_read : (text threads : List ℕ) → HasRead text [] threads → Says te
 all_read text threads has =
     subst (λ (l : List (List ℕ)). AllZip Encodes l threads) (sym (has.cut ∙ append-nil has.before)) has.encoded
 
--- a bad token behind tokens that encode threads
+-- a bad token after tokens that encode threads
 bad_behind :
     (before : List (List ℕ)) (token : List ℕ) (more : List (List ℕ)) (threads : List ℕ) → AllZip Encodes before threads
     → (IsEncoding token → ⊥)
@@ -80,7 +80,7 @@ bad_behind (b ∷ before) token more [] encoded bad = absurd encoded
 bad_behind (b ∷ before) token more (t ∷ threads) encoded bad =
     ((t, encoded.0), bad_behind before token more threads encoded.1 bad)
 
--- why a text gave no threads, where a piece was not added
+-- why a text gave no threads if a piece was not added
 pub refused_there :
     (text piece : List ℕ) (more : List (List ℕ)) (threads : List ℕ) (error : ParseError)
     → HasRead text (with_piece piece more) threads → WhyNotAdded (length threads) piece error

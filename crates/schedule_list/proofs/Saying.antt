@@ -1,4 +1,4 @@
--- A text says one thing.
+-- A text encodes one thing.
 use Rattle.std.proofs.Common.{◌≡◌, ℕ, zero, suc, List, [], ◌∷◌, Result, Ok, Err, refl, ap}
 use Rattle.std.specs.List.{AllZip}
 use Rattle.schedule_list.specs.Schedule.{Encodes, IsFirstBad, Say}
@@ -14,7 +14,7 @@ same_threads (token ∷ tokens) (x ∷ a) [] p q = absurd q
 same_threads (token ∷ tokens) (x ∷ a) (y ∷ b) p q =
     let first = one_thread token x y p.0 q.0 in let rest = same_threads tokens a b p.1 q.1 in cc
 
--- where all tokens encode threads, none is bad
+-- if all tokens encode threads, none is bad
 none_bad :
     (tokens : List (List ℕ)) (threads : List ℕ) (number : ℕ) → AllZip Encodes tokens threads → IsFirstBad tokens number
     → ⊥

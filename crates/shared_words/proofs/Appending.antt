@@ -16,7 +16,7 @@ shown log = []
 abbrev pub moved : List Job → List Job → ℕ → Type 0
 moved xs ys n = Unit {0}
 
--- What the step leaves, by whether it found the number that it expected.
+-- What holds after the step, by whether it found the number that it expected.
 abbrev Leaves : List Job → Job → ℕ → List Cell → List Job → Type 0
 Leaves v e old cells log =
     Goes IsKept shown moved 0 (v, (no_nib, None)) (λ n. either (n == old) (old + 1) n)
@@ -51,7 +51,7 @@ leaves log v e old len pre false is =
       rw is (ap length all),
     )
 
--- Whatever the book is, the step appends the job to all that was seen, or finds that the log is longer.
+-- Whatever the log is, the step appends the job to all that was seen, or finds that the log is longer.
 pub appends :
     (v : List Job) (e : Job) (old : ℕ) → length v ≡ old
     → Moves IsKept shown moved 0 (v, (no_nib, None)) (λ n. either (n == old) (old + 1) n)

@@ -13,7 +13,7 @@ no_jobs_in : (log : List Job) (k : ℕ) → map (job_at log) (replicate k None) 
 no_jobs_in log zero = refl
 no_jobs_in log (suc k) = ap (λ xs. None ∷ xs) (no_jobs_in log k)
 
--- No number is none below the length of the log.
+-- No thread has a number at first, so none reaches the length of the log.
 pub none_below : (count : ℕ) → AreBelow count no_numbers
 unfolding no_numbers
 none_below count t n is = absurd (none_in 32 t n is)
@@ -39,7 +39,7 @@ below_set count more t last number below le own u n is =
     (λ (there : slice_get last u ≡ Some (Some n)). omega (arith, below u n there, le))
     (get_in last t u number (Some n) is)
 
--- What stands in a log stands there too once it has grown.
+-- What is at a place of a log is there too once it has grown.
 at_longer : (jobs more : List Job) (n : ℕ) → n < length jobs → slice_get (jobs ++ more) n ≡ slice_get jobs n
 at_longer [] more n lt = absurd (omega arith)
 at_longer (j ∷ jobs) more zero lt = refl

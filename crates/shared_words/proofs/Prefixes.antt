@@ -10,7 +10,7 @@ prefix_whole (x ∷ xs) [] p le = absurd (cc (p.1))
 prefix_whole (x ∷ xs) (y ∷ ys) p le =
     let rest = prefix_whole xs ys (p.0, cc (p.1)) (omega arith) in cc (p.1, rest)
 
--- What stands in a beginning stands in the whole, at the same place.
+-- An element of a beginning is an element of the whole, at the same place.
 pub prefix_get :
     {A : Type 0} (xs ys : List A) (k : ℕ) (x : A) → IsPrefix xs ys → slice_get xs k ≡ Some x → slice_get ys k ≡ Some x
 prefix_get [] ys k x p h = absurd cc
@@ -18,7 +18,7 @@ prefix_get (y ∷ xs) [] k x p h = absurd (cc (p.1))
 prefix_get (y ∷ xs) (z ∷ ys) zero x p h = cc (p.1, h)
 prefix_get (y ∷ xs) (z ∷ ys) (suc k) x p h = prefix_get xs ys k x (p.0, cc (p.1)) h
 
--- What stands at a place in two beginnings of one list is the same.
+-- The elements at one place of two beginnings of one list are the same.
 pub same_at :
     {A : Type 0} (xs ys zs : List A) (k : ℕ) (x y : A) → IsPrefix xs zs → IsPrefix ys zs
     → slice_get xs k ≡ Some x → slice_get ys k ≡ Some y → y ≡ x

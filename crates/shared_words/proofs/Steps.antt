@@ -1,4 +1,4 @@
--- Each step keeps the rule of the word, and tells what it is said to tell.
+-- Each step keeps the rule of the word, and returns what its contract says.
 use Rattle.std.proofs.Common.{◌≡◌, ◌≢◌, ℕ, zero, suc, ◌+◌, ◌%◌, ◌^◌, ◌<◌, ◌≤◌, Bool, true, false, true≢false, List, [], ◌∷◌, ◌++◌, length, set, refl, sym, ap, ◌∙◌, subst, ⊎_elim, arith}
 use Rattle.std.specs.Prelude.{slice_index}
 use mathlib.Core.Option.{some, some-injective, some-ne-none}
@@ -13,7 +13,7 @@ use Rattle.shared_words.specs.Counting.{starter, spent, informed, joined, raised
 off : {b : Bool} → b ≡ true → b ≡ false → ⊥
 off is isnt = true≢false (sym is ∙ isnt)
 
--- What stands at a place after it is written.
+-- The element at a place after it is written.
 set_at : {A : Type 0} (xs : List A) (i : ℕ) (a b : A) → get_elem? xs i ≡ some a → get_elem? (set xs i b) i ≡ some b
 set_at [] i a b e = absurd (some-ne-none a (sym e))
 set_at (x ∷ xs) zero a b e = refl

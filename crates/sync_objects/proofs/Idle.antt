@@ -1,4 +1,4 @@
--- Who is found in no queue of a table waits nowhere in it, as a test looks for it.
+-- A thread that a search finds in no queue of a table waits nowhere in it.
 use Rattle.std.proofs.Common.{◌≡◌, ℕ, ◌==◌, Bool, false, List, [], ◌∷◌, arith, refl}
 use Rattle.std.specs.List.{list_any}
 use Rattle.std.proofs.lemmas.List.Sums.{sum_by-cons}

@@ -1,4 +1,4 @@
--- A queue of threads stays one when a thread comes or the first leaves.
+-- A queue of threads stays one if a thread is added or the first leaves.
 use Rattle.std.proofs.Common.{◌≡◌, ℕ, ◌<◌, ◌≤◌, List, [], ◌∷◌, ◌++◌, Option, arith, subst, sym, ap}
 use Rattle.std.proofs.lemmas.Bool.Decides.{nat_tests}
 use Rattle.guest_call.proofs.Counting.{places-nil, places-cons, places-push}

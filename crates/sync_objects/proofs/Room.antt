@@ -31,7 +31,7 @@ unfolding total
 total-cons zero u q = omega (arith, tally-zero u)
 total-cons (suc n) u q = omega (arith, places-cons n u q, total-cons n u q, tally-suc u n)
 
--- who stands first in a queue of threads below n is below n
+-- the first thread in a queue of threads below n is below n
 first-below : (n u : ℕ) (q : List ℕ) → ((t : ℕ) → n ≤ t → places t (u ∷ q) ≡ 0) → tally (nat_lt u n) ≡ 1
 first-below n u q low = by_order (nat_lt u n) refl
   where
@@ -56,7 +56,7 @@ length-total n (u ∷ q) low =
 pub length-few : (n : ℕ) (q : List ℕ) → ((t : ℕ) → n ≤ t → places t q ≡ 0) → ((t : ℕ) → places t q ≤ 1) → length q ≤ n
 length-few n q low once = omega (arith, length-total n q low, total-le n q once)
 
--- where a thread below n isn't in the queue, there is room for it
+-- if a thread below n isn't in the queue, there is room for it
 pub length-room :
     (n t : ℕ) (q : List ℕ) → t < n → ((u : ℕ) → n ≤ u → places u q ≡ 0) → ((u : ℕ) → places u q ≤ 1) → places t q ≡ 0
     → length q < n

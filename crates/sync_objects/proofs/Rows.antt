@@ -1,10 +1,10 @@
--- A row at the object of a number, as what it gave and left there.
+-- A row at the object of a number, by its effect and the object after it.
 use Rattle.std.proofs.Common.{◌≡◌, ℕ, ◌<◌, List, length, slice_index_or, slice_set, Option, Some, arith}
 use Rattle.std.proofs.lemmas.Bool.Decides.{nat_tests}
 use Rattle.std.proofs.lemmas.List.{get_or_default}
 use Rattle.sync_objects.specs.Rows.{row_at}
 
--- what a row gave and left at an object below 64 is the row there
+-- the effect and the object after a row, at a number below 64, are those of the row there
 pub row_at-done : {C T : Type 0} (free d : C) (row : C → T × C) (cells : List C) (i : ℕ) (r : T) (y : C) →
     i < 64 → length cells ≡ 64 → (r, y) ≡ row (slice_index_or cells i d) → (Some r, slice_set cells i y)
     ≡ row_at free row cells i

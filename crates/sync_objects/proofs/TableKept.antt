@@ -1,4 +1,4 @@
--- What a table keeps by a row that loses and doubles nobody, and that its queues have room.
+-- What a table keeps after a row that loses no thread and puts none in two places; and that its queues have room.
 use Rattle.std.proofs.Common.{◌≡◌, ℕ, ◌+◌, ◌<◌, ◌≤◌, Bool, true, false, List, [], length, replicate, slice_index_or, arith, refl, subst, sym, ap, ◌∙◌}
 use Rattle.std.proofs.lemmas.List.{length-replicate}
 use Rattle.guest_call.specs.declared.Fate.{Fate}
@@ -12,7 +12,7 @@ use Rattle.guest_call.proofs.Kept.{once_kept, known_kept}
 use Rattle.guest_call.proofs.Shape.{length-at_cell}
 use Rattle.sync_objects.proofs.Room.{length-room}
 
--- 64 copies of an object for which nobody waits are a table
+-- 64 copies of an object for which no thread waits are a table
 pub replicate_table : {C : Type 0} (queue : C → List ℕ) (free : C) → queue free ≡ [] → IsTable queue (replicate 64 free)
 replicate_table queue free nobody = record {
   objects = length-replicate 64 free;
@@ -20,7 +20,7 @@ replicate_table queue free nobody = record {
   once = λ t. omega (arith, waits-replicate queue 64 free t nobody);
 }
 
--- a row that is fair at each object keeps the table, where its caller waits nowhere in it
+-- a row that is fair at each object keeps the table, if its caller waits nowhere in it
 at_cell-kept : {C : Type 0} (queue : C → List ℕ) (free : C) (row : C → Effect × C) (cells : List C) (i t : ℕ) →
     ((c : C) → IsFair queue t c (row c)) → IsTable queue cells → t < 32 → waits queue cells t ≡ 0
     → IsTable queue (at_cell free row cells i).1
@@ -33,7 +33,7 @@ at_cell-kept queue free row cells i t fair table lt idle =
       once = once_kept (waits queue cells) (waits queue r.1) t r.0 keeps idle table.once;
     }
 
--- the same of the effect and the table that a call gave
+-- the same of the effect and the table that a call returned
 pub row_kept :
     {C : Type 0} (queue : C → List ℕ) (free : C) (row : C → Effect × C) (cells after : List C) (e : Effect) (i t : ℕ)
     →
@@ -43,7 +43,7 @@ row_kept {C} queue free row cells after e i t fair is table lt idle =
     subst (IsTable queue) (sym (ap (λ (r : Effect × List C). r.1) is))
     (at_cell-kept queue free row cells i t fair table lt idle)
 
--- who calls a row that never blocks enters no queue
+-- the caller of a row that never blocks enters no queue
 pub entering-none : (t : ℕ) (f : Fate) (u : ℕ) → waiting f ≡ 0 → entering t f u ≡ 0
 entering-none t (Returns a b) u none = entering-returns t a b u
 entering-none t Blocks u none = absurd (omega (arith, none))
@@ -56,7 +56,7 @@ at_cell-waits-not :
     → waiting (at_cell free row cells i).0.fate ≡ 0
 at_cell-waits-not free row cells i still = grind (arith, still)
 
--- a row that is fair at each object and never blocks keeps the table, whoever calls it
+-- a row that is fair at each object and never blocks keeps the table, whichever thread calls it
 at_cell-still : {C : Type 0} (queue : C → List ℕ) (free : C) (row : C → Effect × C) (cells : List C) (i t : ℕ) →
     ((c : C) → IsFair queue t c (row c)) → ((c : C) → waiting (row c).0.fate ≡ 0) → IsTable queue cells
     → IsTable queue (at_cell free row cells i).1
@@ -71,7 +71,7 @@ at_cell-still queue free row cells i t fair still table =
       once = λ u. omega (arith, keeps u, nobody u, table.once u);
     }
 
--- the same of the effect and the table that a call gave
+-- the same of the effect and the table that a call returned
 pub still_kept :
     {C : Type 0} (queue : C → List ℕ) (free : C) (row : C → Effect × C) (cells after : List C) (e : Effect) (i t : ℕ)
     →
@@ -81,7 +81,7 @@ still_kept {C} queue free row cells after e i t fair still is table =
     subst (IsTable queue) (sym (ap (λ (r : Effect × List C). r.1) is))
     (at_cell-still queue free row cells i t fair still table)
 
--- where the arguments are in range a checked call does what it does
+-- if the arguments are in range, a checked call does what the call does
 pub checked-in :
     {S : Type 0} (in_range : Bool) (state : S) (done r : Effect × S) → in_range ≡ true → r ≡ done
     → r ≡ checked in_range state done

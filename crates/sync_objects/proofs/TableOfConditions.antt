@@ -15,7 +15,7 @@ use Rattle.sync_objects.specs.declared.conditions.Leaving.{Leaving}
 use Rattle.sync_objects.specs.ConditionTable.{IsConditionTable, wait_row, wait_at}
 use Rattle.sync_objects.specs.Leaving.{leaving_at}
 
--- conditions for which nobody waits are a table
+-- conditions for which no thread waits are a table
 pub unawaited_table : IsConditionTable all_unawaited
 unfolding all_unawaited
 unawaited_table = record {
@@ -23,18 +23,18 @@ unawaited_table = record {
   named = All-replicate (λ (c : Condition). c.mutex < 64) 64 unawaited (omega arith);
 }
 
--- a wait as an effect: who waits blocks
+-- a wait as an effect: the caller blocks
 wait_effect : Bool → Effect
 wait_effect does = if does then blocks else answers 0
 
--- nobody is lost and nobody doubled by a wait
+-- a wait loses no thread and puts none in two places
 wait_fair : (t m : ℕ) (c : Condition) (u : ℕ) →
     places u (wait_row t m c).1.queue + places u (wait_effect (wait_row t m c).0).woken
     ≡ places u c.queue + entering t (wait_effect (wait_row t m c).0).fate u
 unfolding wait_effect
 wait_fair t m c u = grind (arith, places-nil, places-push, entering-returns, entering-blocks)
 
--- a wait names the mutex that it is given, or leaves the one that was named
+-- a wait names the mutex that it is given, or keeps the one that was named
 wait-named : (t m : ℕ) (c : Condition) → m < 64 → c.mutex < 64 → (wait_row t m c).1.mutex < 64
 wait-named t m c lt named = grind arith
 
@@ -65,7 +65,7 @@ wait_at-kept cells t i m kept lt idle there mutex =
           kept.named;
     }
 
--- the table after a wait, as the answer and the table that the call gave
+-- the table after a wait, as the answer and the table that the call returned
 pub wait_kept :
     (cells after : List Condition) (does : Bool) (t i m : ℕ) → (does, after) ≡ wait_at t m cells i
     → IsConditionTable cells → t < 32 → waits condition_queue cells t ≡ 0 → i < 64 → m < 64
@@ -74,7 +74,7 @@ wait_kept cells after does t i m is kept lt idle there mutex =
     subst IsConditionTable (sym (ap (λ (r : Bool × List Condition). r.1) is))
     (wait_at-kept cells t i m kept lt idle there mutex)
 
--- what a condition answered and became, as the table's
+-- the answer of a condition, and the condition after it, as the table's
 pub wait_at-done :
     (cells : List Condition) (d : Condition) (t i m : ℕ) (does : Bool) (after : Condition) → IsConditionTable cells
     → i < 64
@@ -85,12 +85,12 @@ wait_at-done cells d t i m does after kept there is =
     get_or_default cells i d unawaited (omega (arith, there, kept.table.objects)) in
     grind (arith, is, alike)
 
--- who leaves a condition waited for it, and who doesn't still waits
+-- a thread that leaves a condition waited for it, and one that doesn't still waits
 abbrev pub IsLeaving : (Condition → Left) → Type 0
 IsLeaving leaving =
     (c : Condition) (u : ℕ) → places u (leaving c).threads + places u (leaving c).rest.queue ≡ places u c.queue
 
--- a condition that threads leave goes on to name its mutex
+-- a condition that threads leave keeps the name of its mutex
 abbrev pub IsNamed : (Condition → Left) → Type 0
 IsNamed leaving = (c : Condition) → (leaving c).rest.mutex ≡ c.mutex
 
@@ -132,7 +132,7 @@ left-kept leaving leaves names cells i kept there =
       named = All-set (λ (x : Condition). x.mutex < 64) cells i d (omega (arith, names c, named)) kept.named;
     }
 
--- the same at any number, as the call gave it
+-- the same at any number, as the call returned it
 pub leaving_kept :
     (leaving : Condition → Left) → IsLeaving leaving → IsNamed leaving
     → (cells after : List Condition) (left : Option Leaving) (i : ℕ) → (left, after) ≡ leaving_at leaving cells i
@@ -146,7 +146,7 @@ leaving_kept leaving leaves names cells after left i is kept = by_range (nat_lt 
         ≡ after = grind arith in same) (left-kept leaving leaves names cells i kept (grind (arith, nat_tests)))
     by_range false lt = subst IsConditionTable (let same : cells ≡ after = grind arith in same) kept
 
--- who leaves, by the test of the number
+-- which threads leave, by the test of the number
 abbrev left_by : Bool → (Condition → Left) → List Condition → ℕ → Option Leaving × List Condition
 left_by b leaving cells i =
     let c : Condition = slice_index_or cells i unawaited in

@@ -43,7 +43,7 @@ admit_each_kept cells after admitted m threads is table lt low once =
     subst (IsTable mutex_queue) (sym (ap (λ (r : List ℕ × List Mutex). r.1) is))
     (admit_each_at-kept cells m threads table lt low once)
 
--- what a mutex gave and became when threads came to it, as the table's
+-- the effect and the mutex after threads came to it, as the table's
 pub admit_each_at-done :
     (cells : List Mutex) (d : Mutex) (m : ℕ) (came threads admitted : List ℕ) (after : Mutex)
     → IsTable mutex_queue cells → m < 64

@@ -20,7 +20,7 @@ first_table = record {
   known = λ t beyond. omega (arith, places-nil t);
 }
 
--- a fair row that takes no thread away and stays within 32 keeps the table, where its caller waits for nobody
+-- a fair row that removes no thread and stays within 32 keeps the table, if its caller waits for no other
 pub table_kept :
     (members : List Member) (t : ℕ) (r : Effect × List Member) → IsFairTable member_queue t members r
     → length members ≤ length r.1 → length r.1 ≤ 32
@@ -35,7 +35,7 @@ table_kept members t r fair more few table there idle = record {
       table.known u (omega (arith, more));
 }
 
--- the same of a row that never blocks, whoever calls it
+-- the same of a row that never blocks, whichever thread calls it
 pub still_kept :
     (members : List Member) (t : ℕ) (r : Effect × List Member) → IsFairTable member_queue t members r
     → waiting r.0.fate ≡ 0 → length members ≤ length r.1 → length r.1 ≤ 32
@@ -49,7 +49,7 @@ still_kept members t r fair still more few table = record {
       λ u beyond. omega (arith, fair u, entering-none t r.0.fate u still, table.known u (omega (arith, more, beyond)));
 }
 
--- the table after create, thread_exit and join, as the effect and the table that the call gave
+-- the table after create, thread_exit and join, as the effect and the table that the call returned
 pub create_kept :
     (members after : List Member) (e : Effect) (t pc argument : ℕ) → (e, after) ≡ create_row pc argument members
     → IsThreadTable members

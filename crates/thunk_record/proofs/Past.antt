@@ -1,4 +1,4 @@
--- A slot past a view's end has no bytes, and no read page is without any.
+-- A slot past a view's end has no bytes, and no read page is without bytes.
 use Rattle.std.proofs.Common.{◌≡◌, ℕ, ◌≤◌, List, [], ◌∷◌, length, false, ap, ◌∙◌, refl, arith}
 use Rattle.std.proofs.lemmas.List.{get_or_past}
 use Rattle.std.specs.Str.{bytes_eq}

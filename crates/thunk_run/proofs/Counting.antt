@@ -10,7 +10,7 @@ use Rattle.thunk_spec.specs.Thunk.{Frame, Thunk, thunk, turns, followed}
 use Rattle.thunk_spec.specs.Record.{kept_thunk}
 use Rattle.thunk_run.specs.Running.{IsWithinFuel}
 
--- a turn and what follows it is one turn at least, and one more than the most of what follows
+-- a turn and what follows it have at least one turn, and at most one more than the bound of what follows
 followed-within :
     (fuel : ℕ) (o : Outcome) (map : List Mapped) (memory : Memory) (t : Turn) (rest : Memory → Registers → Thunk)
     → ((other : Memory) (r : Registers) → (rest other r).count ≤ fuel)
@@ -27,7 +27,7 @@ turns-within map (suc fuel) memory r =
     followed-within fuel (turn map memory r).outcome map memory (turn map memory r) (turns map fuel)
     (λ other s. (turns-within map fuel other s).most)
 
--- what is kept of a thunk tells a number of turns that is from 1 to the fuel
+-- what is kept of a thunk has a number of turns from 1 to the fuel
 pub kept_within :
     (f : Frame) (view : Memory) (r : Registers) → IsWithinFuel f.fuel (kept_thunk f view r).count
 unfolding kept_thunk thunk

@@ -24,7 +24,7 @@ either : (p last a : ℕ) → p ≤ a → a ≤ last → last < p + 4096 → (a 
 either p last a low high near =
     elim (cases_eq (a / 4096) (p / 4096)) [ inl first ↦ inl first | inr other ↦ inr (omega arith) ]
 
--- a page that is noted is noted by another byte of it
+-- noting a page by another byte of it changes nothing
 noted_again :
     (map : List Mapped) (flags : List Bool) (a b : ℕ) → a / 4096 ≡ b / 4096
     → set (set flags (slot_of map b) true) (slot_of map a) true ≡ set flags (slot_of map b) true
@@ -45,7 +45,7 @@ module _ (map : List Mapped) (p last : ℕ) (near : last < p + 4096) where
       ] in
       rw (here, readable_from_ends first final n (a + 1) (omega arith) (omega arith)) refl
 
-  -- all of the last page's were taken with the first of them
+  -- noting a range of addresses of the last page notes only that page
   taken_last :
       (n a : ℕ) (flags : List Bool) → a / 4096 ≡ last / 4096 → a + n ≤ last + 1
       → taken_at map (set flags (slot_of map last) true) (range_with_len a n) ≡ set flags (slot_of map last) true
@@ -99,7 +99,7 @@ both_ends false false last p q r = refl
 both_ends false true false p q r = refl
 both_ends false true true p q r = r refl refl
 
--- bytes may be read where the first and the last may be
+-- bytes may be read exactly if the first and the last may be
 pub readable_ends :
     (map : List Mapped) (p n last : ℕ) → 0 < n → n ≤ 4096 → p + n ≡ last + 1
     → is_readable map p n ≡ (allows read_right (permission_at map p) && allows read_right (permission_at map last))

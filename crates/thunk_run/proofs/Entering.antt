@@ -1,4 +1,4 @@
--- Entering a page changes nothing of what turns leave, and turns that follow leave what the model's leave.
+-- Entering a page doesn't change what later turns do, and turns that follow do what the model's turns do.
 use Rattle.std.proofs.Common.{◌≡◌, ℕ, ◌+◌, ◌-◌, ◌*◌, ◌/◌, ◌%◌, ◌≤◌, zero, suc, Bool, true, set, List, [], ◌∷◌, ◌++◌, subst, ap, sym, ◌∙◌, refl, eq-eqb, arith}
 use Rattle.std.proofs.lemmas.List.{set-set}
 use Rattle.isa_spec.specs.Registers.{Registers}
@@ -49,7 +49,7 @@ turns-take map memory r n aligned permitted =
     λ t. (addresses : List ℕ) × (followed t.outcome map memory t (turns map n)).taken ≡ r.pc ∷ addresses in
     subst P (sym is) (followed-takes first.outcome map memory r.pc first (turns map n))
 
--- what is taken first may be taken before
+-- taking what is taken first changes nothing if it was taken before
 taken-before :
     (w : Workspace) (address : ℕ) (t : Thunk)
     → ((addresses : List ℕ) × t.taken ≡ address ∷ addresses)
@@ -65,7 +65,7 @@ taken-before w address t (addresses, is) =
       workspace = after_storing (record w { taken = taken }) t.stores;
     }) marks
 
--- a page that was entered leaves what it leaves where it wasn't
+-- turns at a page that was entered do what they do if it wasn't
 pub entered-left :
     (w after : Workspace) (r : Registers) (pc slot n : ℕ) → pc ≡ r.pc → Enters w pc slot after → pc % 4 ≡ 0 → 1 ≤ n
     → left_after n after r ≡ left_after n w r
@@ -76,7 +76,7 @@ entered-left w after r pc slot (suc n) here enters aligned some =
     subst P (sym (enters.taken ∙ ap (λ (address : ℕ). after_taking w (address ∷ [])) here))
     (taken-before w r.pc (turns w.map (suc n) w.memory r) (turns-take w.map w.memory r n (omega arith) permitted))
 
--- a page that was entered, and whose bytes the view shows, may be run from
+-- a page that was entered, and whose bytes the view has, may be executed
 pub entered-runs :
     (w after : Workspace) (pc slot number : ℕ) (bytes : List ℕ) → Enters w pc slot after → pc / 4096 ≡ number
     → page_of after.view slot ≡ bytes → RunsFrom after number bytes
@@ -93,7 +93,7 @@ entered-runs w after pc slot number bytes enters here shown =
       taken = rw same (set-set w.taken (slot_of w.map pc) true true);
     }
 
--- turns that follow leave what the turns of the model leave
+-- the result of turns that follow is that of the turns of the model
 pub follow-left :
     (n fuel count k : ℕ) (w after : Workspace) (r registers : Registers)
     → Follow n w r after registers → count + n ≤ fuel → k ≡ count + n
@@ -105,20 +105,20 @@ follow-left (suc n) fuel count k w after r registers (middle, between, made, res
     follow-left n fuel (count + 1) k middle after between registers rest (omega arith) (omega arith)
     ∙ turns-next fuel count w middle r between outcome.Next (omega arith) made refl
 
--- and they leave the view
+-- and they keep the view
 pub follow-view :
     (n : ℕ) (w after : Workspace) (r registers : Registers) → Follow n w r after registers → after.view ≡ w.view
 follow-view zero w after r registers (same, still) = rw same refl
 follow-view (suc n) w after r registers (middle, between, made, rest) =
     follow-view n middle after between registers rest ∙ rw made.workspace_is refl
 
--- a turn leaves the view
+-- a turn keeps the view
 pub turn-view :
     {t : Turn} (w after : Workspace) (o : Outcome) (registers : Registers) → Makes t w o registers after
     → after.view ≡ w.view
 turn-view w after o registers made = rw made.workspace_is refl
 
--- turns that leave what the rest leaves, after others that do
+-- the result of turns and of the rest, after others whose rest they are
 pub left-more :
     (fuel count more : ℕ) (w after : Workspace) (r registers : Registers) (whole : TurnsOutcome)
     → counted more (left_after (fuel - count - more) after registers) ≡ left_after (fuel - count) w r

@@ -12,7 +12,7 @@ use Rattle.priv_space.proofs.Collecting.{delta_from-with_stores}
 use Rattle.thunk_run.specs.TurnsOutcome.{TurnsOutcome, left_after, with_put_taken}
 use Rattle.thunk_run.proofs.Leaving.{taken_at-append}
 
--- what turns and their put left of a fresh memory is what is kept of the thunk
+-- what turns and their put make of a fresh memory is what is kept of the thunk
 pub kept-left :
     (f : Frame) (view : Memory) (r : Registers)
     → IsMemory f.map view
@@ -35,7 +35,7 @@ kept-left f view r whole =
     )
     refl
 
--- the parts that a finished memory gave are what is kept of its thunk
+-- the parts that a finished memory gives are what is kept of its thunk
 pub kept-made :
     (f : Frame) (view : Memory) (r : Registers) (l : TurnsOutcome) (reads : List ReadPage) (delta : List PageDelta)
     → IsMemory f.map view
@@ -45,7 +45,7 @@ pub kept-made :
     → record { reads = reads; delta = delta; finish = l.regs; end = l.end; count = l.count } ≡ kept_thunk f view r
 kept-made f view r l reads delta whole made are stored = rw (are, stored, made) (kept-left f view r whole)
 
--- the same where the frame was reached through its holder
+-- the same if the frame was reached through its holder
 pub kept-run :
     (f g : Frame) (view : Memory) (map : List Mapped) (r : Registers) (w : Workspace) (l : TurnsOutcome)
     (reads : List ReadPage) (delta : List PageDelta)

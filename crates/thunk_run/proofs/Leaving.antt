@@ -1,4 +1,4 @@
--- Turns made one after the other leave what the thunk of them all leaves.
+-- The result of turns made one after the other is that of the thunk of them all.
 use Rattle.std.proofs.Common.{◌≡◌, ℕ, ◌+◌, ◌-◌, ◌<◌, suc, Bool, true, slice_set, List, [], ◌∷◌, ◌++◌, ap, sym, ◌∙◌, refl, arith, add_assoc}
 use Rattle.isa_spec.specs.declared.Cause.{Cause}
 use Rattle.isa_spec.specs.Registers.{Registers}
@@ -32,7 +32,7 @@ pub taken_at-append :
 taken_at-append map taken [] ys = refl
 taken_at-append map taken (x ∷ xs) ys = taken_at-append map (slice_set taken (slot_of map x) true) xs ys
 
--- what a turn left, and then the rest of its thunk
+-- the result of a turn, and then of the rest of its thunk
 pub left_by-after_turn :
     (w : Workspace) (t : Turn) (rest : Thunk)
     → left_by w (after_turn t rest) ≡ counted 1 (left_by (after_storing (after_taking w t.taken) t.stores) rest)
@@ -75,7 +75,7 @@ followed-trap o cause map memory t rest e = rw e refl
 pub counted-twice : (a b : ℕ) (l : TurnsOutcome) → counted a (counted b l) ≡ counted (a + b) l
 counted-twice a b l = ap (λ (n : ℕ). record l { count = n }) (sym (add_assoc a b l.count))
 
--- one turn more was made, and its thunk goes on
+-- one more turn was made, and its thunk continues
 pub turns-next :
     (fuel count : ℕ) (w after : Workspace) (r registers : Registers) (o : Outcome)
     → count < fuel → Makes (turn w.map w.memory r) w o registers after → o ≡ outcome.Next

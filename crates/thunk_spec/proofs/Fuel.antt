@@ -14,14 +14,14 @@ use Rattle.thunk_spec.specs.Thunk.{Frame, Thunk, thunk, turns, followed, after_t
 use Rattle.thunk_spec.specs.Turn.{Turn, turn}
 use Rattle.thunk_spec.specs.Record.{Kept, kept, kept_thunk, IsTrue, may_end}
 
--- a turn more, of a turn's fuel more
+-- one more turn, within a fuel that is one more
 within-more : (fuel : ℕ) (end : ThunkEnd) (count : ℕ) → may_end (suc fuel) end (suc count) ≡ may_end fuel end count
 unfolding may_end
 within-more fuel thunk_end.Call count = leb-suc-suc count fuel
 within-more fuel (thunk_end.Trap cause) count = leb-suc-suc count fuel
 within-more fuel thunk_end.Fuel count = eqb-suc-suc count fuel
 
--- no count within a fuel is above it
+-- a count within a fuel isn't above it
 pub within-most : (fuel : ℕ) (end : ThunkEnd) (count : ℕ) → may_end fuel end count ≡ true → count ≤ fuel
 unfolding may_end
 within-most fuel thunk_end.Call count within = leb-true count fuel within
@@ -29,7 +29,7 @@ within-most fuel (thunk_end.Trap cause) count within = leb-true count fuel withi
 within-most fuel thunk_end.Fuel count within =
     let same : count ≡ fuel = eqb-true count fuel within in omega arith
 
--- a turn that ended so and its rest are the same under another fuel, where the rest is
+-- a turn that ended so and its rest are the same under another fuel, if the rest is
 followed-within :
     (map : List Mapped) (fuel other : ℕ) (o : Outcome) (memory : Memory) (t : Turn)
     → ((m : Memory) (r : Registers)
@@ -45,7 +45,7 @@ followed-within map fuel other outcome.Next memory t rest within =
 followed-within map fuel other outcome.Call memory t rest within = refl
 followed-within map fuel other (outcome.Trap cause) memory t rest within = refl
 
--- some turn is made where there is fuel
+-- a turn and what follows it are at least one turn
 followed-some :
     (map : List Mapped) (o : Outcome) (memory : Memory) (t : Turn) (rest : Memory → Registers → Thunk)
     → 1 ≤ (followed o map memory t rest).count

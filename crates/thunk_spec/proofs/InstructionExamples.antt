@@ -99,7 +99,7 @@ unfolding turn fetched number_at number_in permission_at decoded reading_of u_im
     with_register
 turn-ebreak = refl
 
--- ecall asks for a call; registers and pc stay
+-- ecall requests a call; registers and pc stay
 pub turn-ecall :
     turn map (one 0x73 0x00 0x00 0x00) (start 1 2)
     ≡ record { outcome = Call; regs = start 1 2; taken = 0x10000 ∷ []; stores = [] }
@@ -117,7 +117,7 @@ unfolding turn fetched number_at number_in permission_at decoded reading_of u_im
     with_register
 turn-lh = refl
 
--- lh a0,2(t0): an even address is enough
+-- lh a0,2(t0): an even address suffices
 pub turn-lh_aligned :
     turn map (one 0x03 0x95 0x22 0x00) (start 0x11000 0)
     ≡ passed (with_pc (with_register (start 0x11000 0) 10 0x17F) 0x10004) (0x10000 ∷ 0x11002 ∷ []) []

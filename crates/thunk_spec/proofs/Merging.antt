@@ -89,7 +89,7 @@ merged_all-with_stores map os ns ms (s ∷ stores) h =
     ∙ ap (λ memory. with_stores map memory stores)
     (merged_all-set os ns ms (slot_of map s.address) (s.address % 4096) s.byte h)
 
--- with no mark, what is merged is the old page
+-- without a mark, the merged page is the old one
 merged-none : (o n : List ℕ) (k : ℕ) → merged o n (replicate k false) ≡ o
 merged-none [] n k = refl
 merged-none (o ∷ os) [] k = refl
@@ -148,7 +148,7 @@ spread-chosen (true ∷ ms) (n ∷ ns) (o ∷ os) p q =
 spread-chosen (false ∷ ms) (n ∷ ns) (o ∷ os) p q =
     ap (λ rest. o ∷ rest) (spread-chosen ms ns os (omega arith) (omega arith))
 
--- with no place in the mask, nothing is merged
+-- without a place in the mask, nothing is merged
 merged-unstored : (o n : List ℕ) (m : List Bool) → is_stored m ≡ false → merged o n m ≡ o
 merged-unstored [] n m h = refl
 merged-unstored (o ∷ os) [] m h = refl
@@ -156,7 +156,7 @@ merged-unstored (o ∷ os) (n ∷ ns) [] h = refl
 merged-unstored (o ∷ os) (n ∷ ns) (true ∷ ms) h = cc
 merged-unstored (o ∷ os) (n ∷ ns) (false ∷ ms) h = ap (λ rest. o ∷ rest) (merged-unstored os ns ms h)
 
--- the deltas from one slot further on leave the first page alone
+-- the deltas from one slot further on don't change the first page
 masked-cons :
     (ms : Masks) (ns : Memory) (k : ℕ) (o : List ℕ) (os : Memory)
     → masked (o ∷ os) (delta_from (suc k) ms ns) ≡ o ∷ masked os (delta_from k ms ns)
@@ -201,7 +201,7 @@ masked-delta_from (o ∷ os) (n ∷ ns) (m ∷ ms) h =
     ]
     refl
 
--- what stores leave, written by masks, is the stores laid in order
+-- memory after stores, written by masks, is memory after the stores in order
 pub masked-delta_of :
     (map : List Mapped) (memory : Memory) (stores : List StoredByte)
     → IsMemory map memory

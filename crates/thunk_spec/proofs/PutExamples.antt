@@ -20,7 +20,7 @@ stores_and_puts =
     ∷ 0x93 ∷ 0x08 ∷ 0x10 ∷ 0x00 ∷ 0x73 ∷ 0x00 ∷ 0x00 ∷ 0x00 ∷ [])
     ∷ scratch_page ∷ []
 
--- A put takes the thread's own store where there is one, and else the view's byte; both addresses count as taken.
+-- A put takes the thread's own store if there is one, and else the view's byte; both addresses count as taken.
 pub put-own_store : (thunk (frame_of 9) stores_and_puts (start 0 0)).put ≡ 65 ∷ 0xFF ∷ []
 unfolding thunk turn fetched number_at number_in permission_at decoded reading_of u_immediate i_immediate s_immediate
     immediate_result with_register is_readable put_addresses may_store bytes_stored with_byte
@@ -38,7 +38,7 @@ pub put-two_pages : appended_by map (Some (Put 0x10FFE 4)) ≡ 0x10FFE ∷ 0x10F
 unfolding is_readable permission_at
 put-two_pages = refl
 
--- Where the last byte may not be read, none is taken; nor where there are none.
+-- If the last byte may not be read, none is taken; nor if there are none.
 pub put-past_the_map : appended_by map (Some (Put 0x11FFF 2)) ≡ []
 unfolding is_readable permission_at
 put-past_the_map = refl
@@ -67,7 +67,7 @@ stores_twice =
     ∷ 0x23 ∷ 0x00 ∷ 0x55 ∷ 0x00 ∷ [])
     ∷ scratch_page ∷ []
 
--- The stores of a thunk stand in the order in which they were made.
+-- The stores of a thunk are in the order in which they were made.
 pub stores-in_order :
     (thunk (frame_of 5) stores_twice (start 0 0)).stores ≡ record { address = 0x11000; byte = 65 }
     ∷ record { address = 0x11000; byte = 66 } ∷ []

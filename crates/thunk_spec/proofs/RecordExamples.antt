@@ -25,7 +25,7 @@ zeros = (0 ∷ 0 ∷ 0 ∷ 0 ∷ []) ∷ (0 ∷ 0 ∷ 0 ∷ 0 ∷ []) ∷ []
 abbrev pub delta : List PageDelta
 delta = record { slot = 1; mask = false ∷ true ∷ false ∷ true ∷ []; bytes = 7 ∷ 6 ∷ [] } ∷ []
 
--- What they leave: slot 1 alone, the places 1 and 3, and there the last byte of each.
+-- The delta of them: slot 1 alone, the places 1 and 3, and there the last byte of each.
 pub delta-stores : delta_from 0 (marked map clear stores) (with_stores map zeros stores) ≡ delta
 unfolding with_byte with_mark
 delta-stores = refl
@@ -41,7 +41,7 @@ pub with_stores-memory : with_stores map memory stores ≡ (1 ∷ 2 ∷ 3 ∷ 4 
 unfolding with_byte
 with_stores-memory = refl
 
--- A stored byte that is the one that stood there is kept all the same.
+-- A stored byte that equals the one before is kept all the same.
 pub masked-equal : masked memory (record { slot = 0; mask = true ∷ []; bytes = 1 ∷ [] } ∷ []) ≡ memory
 masked-equal = refl
 
@@ -52,7 +52,7 @@ pub reads-two :
 unfolding reads_of
 reads-two = refl
 
--- A page that no byte was taken from is left out, and bytes of it don't matter.
+-- A page that no byte was taken from isn't kept, and bytes of it don't matter.
 abbrev pub first_page : List ReadPage
 first_page = record { slot = 0; bytes = 1 ∷ 2 ∷ 3 ∷ 4 ∷ [] } ∷ []
 
@@ -63,7 +63,7 @@ reads-one = refl
 pub has-other_page : has ((1 ∷ 2 ∷ 3 ∷ 4 ∷ []) ∷ (0 ∷ 0 ∷ 0 ∷ 0 ∷ []) ∷ []) first_page ≡ true
 has-other_page = refl
 
--- One differing byte of a read page is enough.
+-- One differing byte of a read page suffices.
 pub has-differs : has ((1 ∷ 2 ∷ 3 ∷ 5 ∷ []) ∷ (10 ∷ 11 ∷ 12 ∷ 13 ∷ []) ∷ []) first_page ≡ false
 has-differs = refl
 
@@ -81,7 +81,7 @@ pub fits-same : fits_at sample 2 (start 5 6) memory 5 ≡ true
 unfolding fits_at may_end
 fits-same = refl
 
--- It doesn't fit at another number of steps, with another register, or where a read page differs.
+-- It doesn't fit at another number of steps, with another register, or if a read page differs.
 pub fits-number : fits_at sample 3 (start 5 6) memory 5 ≡ false
 unfolding fits_at may_end
 fits-number = refl

@@ -73,8 +73,8 @@ unfolding thunk turn fetched number_at number_in permission_at decoded reading_o
     immediate_result with_register is_readable put_addresses loaded may_store bytes_stored with_byte
 self-thunk = refl
 
--- A load at a misaligned address ends the thunk by a trap, with the pc at the load; the store before it stands, and the
--- page that is only stored to isn't one that a byte was taken from.
+-- A load at a misaligned address ends the thunk by a trap, with the pc at the load; the store before it is kept, and
+-- the page that is only stored to isn't one that a byte was taken from.
 pub trap-thunk :
     thunk (frame_of 9) trap (start 0 0)
     ≡ record {

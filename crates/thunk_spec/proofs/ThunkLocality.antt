@@ -14,13 +14,13 @@ use Rattle.thunk_spec.specs.Turn.{Turn, turn}
 use Rattle.thunk_spec.specs.Locality.{Agree}
 use Rattle.thunk_spec.proofs.TurnLocality.{turn-same}
 
--- the page that a byte went to is the page as it was, with the byte in it; past the end both are empty
+-- the page that a byte was stored to is the page before, with the byte in it; past the end both are empty
 pub page_of-set_same : (m : Memory) (s a b : ℕ) → page_of (set m s (set (page_of m s) a b)) s ≡ set (page_of m s) a b
 page_of-set_same [] s a b = refl
 page_of-set_same (p ∷ ps) zero a b = refl
 page_of-set_same (p ∷ ps) (suc s) a b = page_of-set_same ps s a b
 
--- a page that two memories have in common they have in common after a stored byte
+-- a page that two memories have in common, they have in common after a stored byte
 pub same-with_byte :
     (map : List Mapped) (view other : Memory) (s : StoredByte) (k : ℕ)
     → page_of other k ≡ page_of view k
@@ -67,7 +67,7 @@ pub agree-back :
 agree-back map view other [] ys agree = agree
 agree-back map view other (x ∷ xs) ys agree = agree-back map view other xs ys agree.1
 
--- a turn takes bytes of its own pages first, so where the thunk agrees the turn does
+-- a turn takes bytes of its own pages first, so the turn agrees if the thunk does
 agree-turn :
     (map :
     List Mapped) (view other : Memory) (o : Outcome) (memory : Memory) (t : Turn)

@@ -18,7 +18,7 @@ use Rattle.thunk_spec.specs.Reads.{ReadPage, reads_from, reads_of, has}
 use Rattle.thunk_spec.specs.Record.{Kept, kept, kept_thunk, put_of, IsTrue, StandsFor}
 use Rattle.thunk_spec.proofs.Merging.{masked-delta_of}
 
--- two views have the same pages where the flags from slot k on are set
+-- two views have the same pages if the flags from slot k on are set
 pub record SameAt (flags : List Bool) (k : ℕ) (view other : Memory) : Type 0 where
   pub at : (j i : ℕ) → i ≡ k + j → get_or flags j false ≡ true → page_of other i ≡ page_of view i
 

@@ -95,7 +95,7 @@ unfolding turn fetched number_at number_in permission_at decoded reading_of i_im
     j_immediate may_store bytes_stored
 turn-sw = refl
 
--- sw t1,2(t0), and sw t1,0(t0) where no page is mapped
+-- sw t1,2(t0), and sw t1,0(t0) at an address without a page
 pub turn-store_misaligned :
     (turn map (one 0x23 0xA1 0x62 0x00) (start 0x11000 0)).outcome ≡ Trap StoreMisaligned
 unfolding turn fetched number_at number_in permission_at decoded reading_of i_immediate s_immediate b_immediate

@@ -23,7 +23,7 @@ pub number_at-same :
 unfolding number_at
 number_at-same map view other address size same = rw same refl
 
--- a load that finds its bytes, or that may not, is the same
+-- a load, whether or not it is permitted, is the same
 load_found-same :
     (map : List Mapped) (view other : Memory) (r : Registers) (kind : Load) (rd address : ℕ) (b : Bool)
     → Agree map view other
@@ -54,7 +54,7 @@ load_turn-same map view other r kind rd address =
       | false ↦ λ _. refl
     ]
 
--- only a load looks at the memory
+-- only a load reads the memory
 executed-same :
     (map : List Mapped) (view other : Memory) (r : Registers) (i : Instr)
     → Agree map view other (executed map view r i).taken

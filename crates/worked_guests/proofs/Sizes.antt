@@ -10,7 +10,7 @@ one_size (Instruction instr) = (omega arith, omega arith)
 one_size (Word word) = (omega arith, omega arith)
 one_size (Byte byte) = (omega arith, omega arith)
 
--- items take at least a byte each, and at most four
+-- items take one to four bytes each
 pub sizes :
     (items : List Item)
     → (length items ≤ length (items_bytes items)) × (length (items_bytes items) ≤ 4 * length items)

@@ -1,4 +1,4 @@
--- What is left to prove of the law.
+-- Answers to the goals that the check of the law leaves open.
 use Rattle.std.proofs.Common.{Bool, if◌then◌else◌, Ok, Err, ap}
 use Rattle.guest_gen.specs.Generated.{next_of}
 use Rattle.guest_gen.proofs.Inputs.{edit-in_range}

@@ -1,4 +1,4 @@
--- What is left to prove of `facts_on`.
+-- Answers to the goals that the check of `facts_on` leaves open.
 use Rattle.std.proofs.Common.{◌+◌, drop, refl, ap, subst, ◌∙◌, arith}
 use Rattle.std.specs.Prelude.{◌&&◌, cond}
 use Rattle.std.specs.Arc.{arc_value}

@@ -1,4 +1,4 @@
--- What holds at the loop of `facts_on`.
+-- The invariant of the loop of `facts_on`.
 use Rattle.std.proofs.Common.{◌≡◌, ◌++◌, drop}
 use Rattle.history_spec.specs.Facts as order
 use Rattle.history_facts.specs.PendingFacts.{facts_to_come}

@@ -1,4 +1,4 @@
--- What is left to prove of `known`.
+-- Answers to the goals that the check of `known` leaves open.
 use Rattle.std.proofs.Common.{◌≡◌, ◌+◌, true, Some, eqb, List, length, refl, sym, ap, subst, ◌∙◌, arith}
 use Rattle.std.specs.List.{slice_get}
 use Rattle.thunk_spec.specs.Record.{Record}

@@ -1,4 +1,4 @@
--- What holds at the loop of `known`.
+-- The invariant of the loop of `known`.
 use Rattle.std.proofs.Common.{◌≡◌, ◌++◌, true, drop}
 use Rattle.history_spec.specs.Facts as order
 use Rattle.history_facts.specs.PendingFacts.{facts_to_come}

@@ -1,4 +1,4 @@
--- Answers to the goals that the check leaves of `audits_agree`.
+-- Answers to the goals that the check of `audits_agree` leaves open.
 use Rattle.machine_spec.specs.Setup.{first}
 use Rattle.history_spec.proofs.Making.{one-first}
 use Rattle.history_spec.proofs.audits_agree.Goals as goal

@@ -1,4 +1,4 @@
--- Answers to the goals that the check leaves of `every_beginning_goes_on`.
+-- Answers to the goals that the check of `every_beginning_goes_on` leaves open.
 use Rattle.history_spec.proofs.Honest.{begin-leads}
 use Rattle.history_spec.proofs.every_beginning_goes_on.Goals as goal
 

@@ -1,4 +1,4 @@
--- Answers to the goals that the check leaves of `every_order_leads_to_the_same`.
+-- Answers to the goals that the check of `every_order_leads_to_the_same` leaves open.
 use Rattle.history_spec.specs.Facts.{facts}
 use Rattle.history_spec.proofs.Every.{keeps-begin}
 use Rattle.history_spec.proofs.Honest.{honest-threads, begin-leads}

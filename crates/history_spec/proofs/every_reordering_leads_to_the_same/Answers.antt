@@ -1,4 +1,4 @@
--- Answers to the goals that the check leaves of `every_reordering_leads_to_the_same`.
+-- Answers to the goals that the check of `every_reordering_leads_to_the_same` leaves open.
 use Rattle.history_spec.proofs.Arranged.{places-threads, places-lead}
 use Rattle.history_spec.proofs.every_reordering_leads_to_the_same.Goals as goal
 

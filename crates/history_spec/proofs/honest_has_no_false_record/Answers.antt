@@ -1,4 +1,4 @@
--- Answers to the goals that the check leaves of `honest_has_no_false_record`.
+-- Answers to the goals that the check of `honest_has_no_false_record` leaves open.
 use Rattle.history_spec.proofs.Making.{honest-unless-false, honest-made}
 use Rattle.history_spec.proofs.honest_has_no_false_record.Goals as goal
 

@@ -1,4 +1,4 @@
--- Answers to the goals that the check leaves of `honest_records_are_true`.
+-- Answers to the goals that the check of `honest_records_are_true` leaves open.
 use Rattle.std.proofs.lemmas.List.Elements.{All-from_recursion}
 use Rattle.machine_spec.specs.Setup.{first}
 use Rattle.history_spec.proofs.Truth.{IsTrueIn, honest-true}

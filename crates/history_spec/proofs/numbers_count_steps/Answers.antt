@@ -1,4 +1,4 @@
--- Answers to the goals that the check leaves of `numbers_count_steps`.
+-- Answers to the goals that the check of `numbers_count_steps` leaves open.
 use Rattle.history_spec.proofs.Numbers.{setup-number, honest-numbered}
 use Rattle.history_spec.proofs.numbers_count_steps.Goals as goal
 

@@ -1,4 +1,4 @@
--- Answers to the goals that the check leaves of `records_are_mapped`.
+-- Answers to the goals that the check of `records_are_mapped` leaves open.
 use Rattle.history_spec.proofs.Mapped.{record-mapped, setup-mapped, honest-mapped}
 use Rattle.history_spec.proofs.records_are_mapped.Goals as goal
 

@@ -1,4 +1,4 @@
--- Answers to the goals that the check leaves of `reuse_is_step`.
+-- Answers to the goals that the check of `reuse_is_step` leaves open.
 use Rattle.machine_spec.specs.Setup.{first, scratch}
 use Rattle.machine_spec.proofs.Beginning.{IsWhole-first}
 use Rattle.history_spec.proofs.Scratch.{scratch-frame, scratch-whole}

@@ -1,4 +1,4 @@
--- Answers to the goals that the check leaves of `same_input_and_limits_is_same_setup`.
+-- Answers to the goals that the check of `same_input_and_limits_is_same_setup` leaves open.
 use Rattle.history_spec.proofs.Truth.{same-setup}
 use Rattle.history_spec.proofs.same_input_and_limits_is_same_setup.Goals as goal
 

@@ -1,4 +1,4 @@
--- Answers to the goals that the check leaves of `view_is_fixed`.
+-- Answers to the goals that the check of `view_is_fixed` leaves open.
 use Rattle.std.proofs.Common.{ap}
 use Rattle.thunk_spec.specs.Thunk.{Frame}
 use Rattle.machine_spec.specs.Schedule.{scratch_from}

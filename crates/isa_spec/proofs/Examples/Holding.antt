@@ -23,17 +23,17 @@ pub a_write_to_x5_is_kept : register (with_register reset 5 7) 5 ≡ 7
 unfolding with_register
 a_write_to_x5_is_kept = refl
 
--- a write to x5 leaves its neighbours
+-- a write to x5 keeps its neighbours
 pub a_write_to_x5_leaves_x4 : register (with_register reset 5 7) 4 ≡ 0
 unfolding with_register
 a_write_to_x5_leaves_x4 = refl
 
--- a write to x5 leaves its neighbours
+-- a write to x5 keeps its neighbours
 pub a_write_to_x5_leaves_x6 : register (with_register reset 5 7) 6 ≡ 0
 unfolding with_register
 a_write_to_x5_leaves_x6 = refl
 
--- a write to a register leaves pc
+-- a write to a register keeps pc
 pub a_write_to_x5_leaves_pc : (with_register reset 5 7).pc ≡ 0x10000
 unfolding with_register
 a_write_to_x5_leaves_pc = refl
@@ -47,7 +47,7 @@ a_write_to_x31_is_kept = refl
 pub a_jump_moves_pc : (with_pc reset 0x10008).pc ≡ 0x10008
 a_jump_moves_pc = refl
 
--- a jump leaves the registers
+-- a jump keeps the registers
 pub a_jump_leaves_x5 : register (with_pc (with_register reset 5 7) 0x10008) 5 ≡ 7
 unfolding with_register
 a_jump_leaves_x5 = refl

@@ -1,10 +1,10 @@
--- What is left to prove of `append_list`.
+-- Answers to the goals that the check of `append_list` leaves open.
 use Rattle.std.proofs.Common.{◌≡◌, ℕ, List, ◌++◌, length, take, sym, ap, ◌∙◌, arith, length-append, append_assoc, flat_map, ◌+◌, refl}
 use Rattle.std.proofs.lemmas.List.{take-take, take_at}
 use Rattle.ith_text.specs.Lines.{list_item}
 use Rattle.ith_text.proofs.append_list.Goals as goal
 
--- what begins with a longer front begins with a shorter one
+-- a text that begins with a longer front begins with a shorter one
 begins_shorter :
     (a rest mid later : List ℕ) → mid ≡ a ++ rest → take (length mid) later ≡ mid
     → take (length a) later ≡ a

@@ -1,4 +1,4 @@
--- Answers to the goals that the check leaves of `each_round_comes_to_an_end`.
+-- Answers to the goals that the check of `each_round_comes_to_an_end` leaves open.
 use Rattle.std.proofs.Common.{◌≡◌, slice_index_or}
 use Rattle.history_spec.specs.History.{schedule_of}
 use Rattle.round_spec.specs.Keeping.{IsCounted}

@@ -1,4 +1,4 @@
--- Answers to the goals that the check leaves of `each_round_is_from_scratch`.
+-- Answers to the goals that the check of `each_round_is_from_scratch` leaves open.
 use Rattle.std.proofs.Common.{slice_index_or, sym}
 use Rattle.rerun_spec.specs.Rounds.{rounds_after}
 use Rattle.rerun_spec.specs.Making.{IsAsReported, FollowsTheChoice}

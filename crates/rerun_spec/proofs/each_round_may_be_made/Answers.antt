@@ -1,4 +1,4 @@
--- Answers to the goals that the check leaves of `each_round_may_be_made`.
+-- Answers to the goals that the check of `each_round_may_be_made` leaves open.
 use Rattle.history_spec.specs.History.{IsHonest, CanGoBy}
 use Rattle.rerun_spec.specs.Rounds.{Round, left_by}
 use Rattle.rerun_spec.proofs.Rounds.{each-holds, later-round, scratch-begins, memo-begins, last-honest, round-honest, some-made}

@@ -1,4 +1,4 @@
--- Answers to the goals that the check leaves of `each_round_reexecutes_the_least`.
+-- Answers to the goals that the check of `each_round_reexecutes_the_least` leaves open.
 use Rattle.round_spec.specs.Working.{ReexecutesLeast}
 use Rattle.rerun_spec.specs.Rounds.{made}
 use Rattle.rerun_spec.proofs.Ending.{valid-made-holds, round-least}

@@ -1,4 +1,4 @@
--- Answers to the goals that the check leaves of `honest_memo_is_of_today`.
+-- Answers to the goals that the check of `honest_memo_is_of_today` leaves open.
 use Rattle.rerun_spec.proofs.Todays.{honest-todays, honest-read}
 use Rattle.rerun_spec.proofs.honest_memo_is_of_today.Goals as goal
 

@@ -1,4 +1,4 @@
--- Answers to the goals that the check leaves of `inputs_fit_their_lists`.
+-- Answers to the goals that the check of `inputs_fit_their_lists` leaves open.
 use Rattle.std.proofs.Common.{refl}
 use Rattle.rerun_spec.proofs.Inputs.{inputs-count, inputs-are-short}
 use Rattle.rerun_spec.proofs.inputs_fit_their_lists.Goals as goal

@@ -1,4 +1,4 @@
--- Answers to the goals that the check leaves of `inputs_go_on`.
+-- Answers to the goals that the check of `inputs_go_on` leaves open.
 use Rattle.rerun_spec.proofs.Inputs.{inputs-more, inputs-refused}
 use Rattle.rerun_spec.proofs.inputs_go_on.Goals as goal
 

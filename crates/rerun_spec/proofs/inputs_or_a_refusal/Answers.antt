@@ -1,4 +1,4 @@
--- Answers to the goals that the check leaves of `inputs_or_a_refusal`.
+-- Answers to the goals that the check of `inputs_or_a_refusal` leaves open.
 use Rattle.rerun_spec.proofs.Inputs.{inputs-one, inputs-unrefused, inputs-or-refused, refused-one, refused-below}
 use Rattle.rerun_spec.proofs.inputs_or_a_refusal.Goals as goal
 

@@ -1,4 +1,4 @@
--- Answers to the goals that the check leaves of `made_reports_go_on`.
+-- Answers to the goals that the check of `made_reports_go_on` leaves open.
 use Rattle.rerun_spec.proofs.Reports.{made-later, made-one, exits-one}
 use Rattle.rerun_spec.proofs.made_reports_go_on.Goals as goal
 

@@ -1,4 +1,4 @@
--- Answers to the goals that the check leaves of `made_rounds_are_reported_right`.
+-- Answers to the goals that the check of `made_rounds_are_reported_right` leaves open.
 use Rattle.rerun_spec.proofs.Reports.{report-made, exit-made, reports-made, exits-made}
 use Rattle.rerun_spec.proofs.made_rounds_are_reported_right.Goals as goal
 

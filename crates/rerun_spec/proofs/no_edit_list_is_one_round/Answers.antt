@@ -1,4 +1,4 @@
--- Answers to the goals that the check leaves of `no_edit_list_is_one_round`.
+-- Answers to the goals that the check of `no_edit_list_is_one_round` leaves open.
 use Rattle.machine_spec.specs.Setup.{first}
 use Rattle.rerun_spec.proofs.Reports.{marks-nothing, only-report, only-exits, alone-report, alone-exits, only-rerun, only-unedited}
 use Rattle.rerun_spec.proofs.no_edit_list_is_one_round.Goals as goal

@@ -1,4 +1,4 @@
--- Answers to the goals that the check leaves of `repeated_round_executes_nothing`.
+-- Answers to the goals that the check of `repeated_round_executes_nothing` leaves open.
 use Rattle.rerun_spec.specs.Rounds.{left_by}
 use Rattle.rerun_spec.proofs.Repeating.{repeated-after, again-reuses, again-instructions, again-never_runs, again-executed, after-schedule, after-machine}
 use Rattle.rerun_spec.proofs.repeated_round_executes_nothing.Goals as goal

@@ -1,4 +1,4 @@
--- Answers to the goals that the check leaves of `reports_count_right`.
+-- Answers to the goals that the check of `reports_count_right` leaves open.
 use Rattle.rerun_spec.proofs.Reports.{reports-count, made-count, worker_steps-steps, worker_steps-made}
 use Rattle.rerun_spec.proofs.reports_count_right.Goals as goal
 

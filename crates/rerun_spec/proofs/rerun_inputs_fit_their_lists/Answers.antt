@@ -1,4 +1,4 @@
--- Answers to the goals that the check leaves of `rerun_inputs_fit_their_lists`.
+-- Answers to the goals that the check of `rerun_inputs_fit_their_lists` leaves open.
 use Rattle.std.proofs.Common.{refl}
 use Rattle.rerun_spec.proofs.Inputs.{rerun-count, rerun-are-short, rerun-later, rerun-alone}
 use Rattle.rerun_spec.proofs.rerun_inputs_fit_their_lists.Goals as goal

@@ -1,4 +1,4 @@
--- Answers to the goals that the check leaves of `rerun_inputs_or_a_refusal`.
+-- Answers to the goals that the check of `rerun_inputs_or_a_refusal` leaves open.
 use Rattle.rerun_spec.proofs.Inputs.{rerun-one, rerun-unrefused, rerun-or-refused}
 use Rattle.rerun_spec.proofs.rerun_inputs_or_a_refusal.Goals as goal
 

@@ -1,4 +1,4 @@
--- Answers to the goals that the check leaves of `rounds_follow_each_other`.
+-- Answers to the goals that the check of `rounds_follow_each_other` leaves open.
 use Rattle.rerun_spec.specs.Rounds.{from_scratch}
 use Rattle.rerun_spec.proofs.Rounds.{numbers-after, setups-after, founds-after, asked-after, at-after, first-past, first-setup, next-after}
 use Rattle.rerun_spec.proofs.rounds_follow_each_other.Goals as goal

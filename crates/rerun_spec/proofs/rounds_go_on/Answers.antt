@@ -1,4 +1,4 @@
--- Answers to the goals that the check leaves of `rounds_go_on`.
+-- Answers to the goals that the check of `rounds_go_on` leaves open.
 use Rattle.rerun_spec.proofs.Going.{rounds-later, after-later, rounds-one, after-one, last-one, rounds-few, after-few, number-later, setup-later, asked-later, past-later}
 use Rattle.rerun_spec.proofs.rounds_go_on.Goals as goal
 

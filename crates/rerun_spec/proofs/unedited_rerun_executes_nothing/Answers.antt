@@ -1,4 +1,4 @@
--- Answers to the goals that the check leaves of `unedited_rerun_executes_nothing`.
+-- Answers to the goals that the check of `unedited_rerun_executes_nothing` leaves open.
 use Rattle.rerun_spec.proofs.Repeating.{rerun-again, again-reuses, again-schedule, again-instructions, again-never_runs, again-executed, again-machine}
 use Rattle.rerun_spec.proofs.unedited_rerun_executes_nothing.Goals as goal
 

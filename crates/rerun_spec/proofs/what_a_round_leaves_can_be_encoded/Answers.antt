@@ -1,4 +1,4 @@
--- Answers to the goals that the check leaves of `what_a_round_leaves_can_be_encoded`.
+-- Answers to the goals that the check of `what_a_round_leaves_can_be_encoded` leaves open.
 use Rattle.rerun_spec.proofs.Events.{round-encoded, round-next, lone-encoded, lone-next}
 use Rattle.rerun_spec.proofs.what_a_round_leaves_can_be_encoded.Goals as goal
 

@@ -1,4 +1,4 @@
--- What is left to prove of `drive`.
+-- Answers to the goals that the check of `drive` leaves open.
 use Rattle.std.proofs.Common.{Option, Some, option_map, ap, sym, subst, ◌∙◌}
 use Rattle.std.proofs.lemmas.List.{drop_all}
 use Rattle.std.specs.Arc.{arc_value}

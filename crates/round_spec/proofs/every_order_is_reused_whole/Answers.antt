@@ -1,4 +1,4 @@
--- Answers to the goals that the check leaves of `every_order_is_reused_whole`.
+-- Answers to the goals that the check of `every_order_is_reused_whole` leaves open.
 use Rattle.history_spec.specs.Facts.{facts}
 use Rattle.history_spec.proofs.Places.{places-keep}
 use Rattle.round_spec.proofs.Reusing.{reused-whole}

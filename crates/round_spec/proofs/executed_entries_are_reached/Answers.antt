@@ -1,4 +1,4 @@
--- Answers to the goals that the check leaves of `executed_entries_are_reached`.
+-- Answers to the goals that the check of `executed_entries_are_reached` leaves open.
 use Rattle.round_spec.proofs.InRounds.{reexecutes-after, reexecutes-by}
 use Rattle.round_spec.proofs.executed_entries_are_reached.Goals as goal
 

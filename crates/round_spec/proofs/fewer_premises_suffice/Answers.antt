@@ -1,4 +1,4 @@
--- Answers to the goals that the check leaves of `fewer_premises_suffice`.
+-- Answers to the goals that the check of `fewer_premises_suffice` leaves open.
 use Rattle.std.proofs.Common.{Some}
 use Rattle.round_spec.specs.Rounds.{round_after}
 use Rattle.round_spec.proofs.Leaving.{round-past}

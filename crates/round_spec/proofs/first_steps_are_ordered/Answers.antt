@@ -1,4 +1,4 @@
--- Clocks tell what comes before.
+-- Clocks determine what comes before.
 use Rattle.round_spec.proofs.Sync.{ordered-tells}
 use Rattle.round_spec.proofs.first_steps_are_ordered.Goals as goal
 

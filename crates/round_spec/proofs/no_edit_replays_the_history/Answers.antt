@@ -1,4 +1,4 @@
--- Answers to the goals that the check leaves of `no_edit_replays_the_history`.
+-- Answers to the goals that the check of `no_edit_replays_the_history` leaves open.
 use Rattle.std.proofs.Common.{Some, subst}
 use Rattle.machine_spec.specs.Setup.{Setup}
 use Rattle.round_spec.specs.Rounds.{opening}

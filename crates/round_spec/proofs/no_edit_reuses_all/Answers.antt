@@ -1,4 +1,4 @@
--- Answers to the goals that the check leaves of `no_edit_reuses_all`.
+-- Answers to the goals that the check of `no_edit_reuses_all` leaves open.
 use Rattle.std.proofs.Common.{subst}
 use Rattle.round_spec.specs.OneWorker.{ReusesAll}
 use Rattle.round_spec.proofs.Unedited.{unedited-schedule, unedited-reuses, unedited-never_runs, unedited-executed, unedited-instructions}

@@ -1,4 +1,4 @@
--- Answers to the goals that the check leaves of `no_history_changes_nothing`.
+-- Answers to the goals that the check of `no_history_changes_nothing` leaves open.
 use Rattle.round_spec.proofs.Agreeing.{choice_by-nothing, one_worker-nothing}
 use Rattle.round_spec.proofs.no_history_changes_nothing.Goals as goal
 

@@ -1,4 +1,4 @@
--- Answers to the goals that the check leaves of `one_worker_comes_to_an_end`.
+-- Answers to the goals that the check of `one_worker_comes_to_an_end` leaves open.
 use Rattle.round_spec.proofs.Lone.{one_worker-permitted, one_worker-complete}
 use Rattle.round_spec.proofs.Ending.{lone-ends, lone-discarded}
 use Rattle.round_spec.proofs.one_worker_comes_to_an_end.Goals as goal

@@ -1,4 +1,4 @@
--- Answers to the goals that the check leaves of `one_worker_does_events`.
+-- Answers to the goals that the check of `one_worker_does_events` leaves open.
 use Rattle.round_spec.proofs.PicksAsEvents.{picks-events}
 use Rattle.round_spec.proofs.one_worker_does_events.Goals as goal
 

@@ -1,4 +1,4 @@
--- Answers to the goals that the check leaves of `one_worker_executes_what_is_reported`.
+-- Answers to the goals that the check of `one_worker_executes_what_is_reported` leaves open.
 use Rattle.round_spec.proofs.Cost.{rounds-cost}
 use Rattle.round_spec.proofs.one_worker_executes_what_is_reported.Goals as goal
 

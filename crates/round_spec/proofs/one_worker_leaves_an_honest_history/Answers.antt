@@ -1,4 +1,4 @@
--- Answers to the goals that the check leaves of `one_worker_leaves_an_honest_history`.
+-- Answers to the goals that the check of `one_worker_leaves_an_honest_history` leaves open.
 use Rattle.round_spec.proofs.PicksAsEvents.{lone-honest}
 use Rattle.round_spec.proofs.one_worker_leaves_an_honest_history.Goals as goal
 

@@ -1,4 +1,4 @@
--- Answers to the goals that the check leaves of `one_worker_makes_its_entries`.
+-- Answers to the goals that the check of `one_worker_makes_its_entries` leaves open.
 use Rattle.round_spec.proofs.Workers.{lone-entries, lone-made}
 use Rattle.round_spec.proofs.one_worker_makes_its_entries.Goals as goal
 

@@ -1,4 +1,4 @@
--- Answers to the goals that the check leaves of `one_worker_makes_its_schedule`.
+-- Answers to the goals that the check of `one_worker_makes_its_schedule` leaves open.
 use Rattle.round_spec.proofs.Lone.{rounds-made, lone-threads, lone-scratch}
 use Rattle.round_spec.proofs.one_worker_makes_its_schedule.Goals as goal
 

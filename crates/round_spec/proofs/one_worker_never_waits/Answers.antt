@@ -1,4 +1,4 @@
--- Answers to the goals that the check leaves of `one_worker_never_waits`.
+-- Answers to the goals that the check of `one_worker_never_waits` leaves open.
 use Rattle.round_spec.proofs.Ending.{never-hold}
 use Rattle.round_spec.proofs.one_worker_never_waits.Goals as goal
 

@@ -1,4 +1,4 @@
--- Answers to the goals that the check leaves of `one_worker_picks_rightly`.
+-- Answers to the goals that the check of `one_worker_picks_rightly` leaves open.
 use Rattle.round_spec.proofs.Picked.{lone-all_picked, lone-points}
 use Rattle.round_spec.proofs.one_worker_picks_rightly.Goals as goal
 

@@ -1,4 +1,4 @@
--- Answers to the goals that the check leaves of `places_determine_who_is_due`.
+-- Answers to the goals that the check of `places_determine_who_is_due` leaves open.
 use Rattle.std.proofs.Common.{Some}
 use Rattle.machine_spec.specs.Machine.{hart_of}
 use Rattle.history_spec.specs.Facts.{facts}

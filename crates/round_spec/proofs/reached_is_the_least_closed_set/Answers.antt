@@ -1,4 +1,4 @@
--- Answers to the goals that the check leaves of `reached_is_the_least_closed_set`.
+-- Answers to the goals that the check of `reached_is_the_least_closed_set` leaves open.
 use Rattle.std.proofs.Common.{suc, ap, Bool, ◌&&◌}
 use Rattle.history_spec.specs.Before.{meets, fact_at}
 use Rattle.round_spec.specs.Reach.{read_at, gave_at}

@@ -1,4 +1,4 @@
--- Answers to the goals that the check leaves of `rounds_are_by_their_schedules`.
+-- Answers to the goals that the check of `rounds_are_by_their_schedules` leaves open.
 use Rattle.round_spec.proofs.BySchedule.{by_schedule-happens, by_schedule-round}
 use Rattle.round_spec.proofs.rounds_are_by_their_schedules.Goals as goal
 

@@ -1,4 +1,4 @@
--- Answers to the goals that the check leaves of `rounds_are_from_scratch`.
+-- Answers to the goals that the check of `rounds_are_from_scratch` leaves open.
 use Rattle.round_spec.proofs.Leaving.{round-scratch}
 use Rattle.round_spec.proofs.rounds_are_from_scratch.Goals as goal
 

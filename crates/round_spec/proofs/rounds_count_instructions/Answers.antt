@@ -1,4 +1,4 @@
--- Answers to the goals that the check leaves of `rounds_count_instructions`.
+-- Answers to the goals that the check of `rounds_count_instructions` leaves open.
 use Rattle.round_spec.proofs.Executed.{round-executed}
 use Rattle.round_spec.proofs.rounds_count_instructions.Goals as goal
 

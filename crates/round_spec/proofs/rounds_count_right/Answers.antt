@@ -1,4 +1,4 @@
--- Answers to the goals that the check leaves of `rounds_count_right`.
+-- Answers to the goals that the check of `rounds_count_right` leaves open.
 use Rattle.round_spec.proofs.Counting.{happens-counted, round-counted}
 use Rattle.round_spec.proofs.rounds_count_right.Goals as goal
 

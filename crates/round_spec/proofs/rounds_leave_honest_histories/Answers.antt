@@ -1,4 +1,4 @@
--- Answers to the goals that the check leaves of `rounds_leave_honest_histories`.
+-- Answers to the goals that the check of `rounds_leave_honest_histories` leaves open.
 use Rattle.std.proofs.Common.{subst, sym}
 use Rattle.machine_spec.specs.Setup.{Setup}
 use Rattle.history_spec.specs.History.{IsSameProgram}

@@ -1,4 +1,4 @@
--- Answers to the goals that the check leaves of `rounds_stay_in_order`.
+-- Answers to the goals that the check of `rounds_stay_in_order` leaves open.
 use Rattle.round_spec.proofs.Happening.{happens-kept, round-kept}
 use Rattle.round_spec.proofs.rounds_stay_in_order.Goals as goal
 

@@ -1,4 +1,4 @@
--- Answers to the goals that the check leaves of `rounds_stay_mapped`.
+-- Answers to the goals that the check of `rounds_stay_mapped` leaves open.
 use Rattle.round_spec.proofs.Mapping.{event-mapped, round-mapped}
 use Rattle.round_spec.proofs.rounds_stay_mapped.Goals as goal
 

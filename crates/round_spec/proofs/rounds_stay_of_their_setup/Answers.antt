@@ -1,4 +1,4 @@
--- Answers to the goals that the check leaves of `rounds_stay_of_their_setup`.
+-- Answers to the goals that the check of `rounds_stay_of_their_setup` leaves open.
 use Rattle.round_spec.proofs.Leaving.{round-setup, round-past}
 use Rattle.round_spec.proofs.rounds_stay_of_their_setup.Goals as goal
 

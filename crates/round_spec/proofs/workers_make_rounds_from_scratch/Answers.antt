@@ -1,4 +1,4 @@
--- Answers to the goals that the check leaves of `workers_make_rounds_from_scratch`.
+-- Answers to the goals that the check of `workers_make_rounds_from_scratch` leaves open.
 use Rattle.round_spec.proofs.Workers.{workers-round, workers-permitted, workers-complete, workers-marks, workers-honest, workers-alone}
 use Rattle.round_spec.proofs.workers_make_rounds_from_scratch.Goals as goal
 

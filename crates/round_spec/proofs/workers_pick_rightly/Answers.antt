@@ -1,4 +1,4 @@
--- Answers to the goals that the check leaves of `workers_pick_rightly`.
+-- Answers to the goals that the check of `workers_pick_rightly` leaves open.
 use Rattle.round_spec.proofs.Rightly.{rightly-opening, rightly-happens}
 use Rattle.round_spec.proofs.workers_pick_rightly.Goals as goal
 

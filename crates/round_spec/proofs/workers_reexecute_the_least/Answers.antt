@@ -1,4 +1,4 @@
--- Answers to the goals that the check leaves of `workers_reexecute_the_least`.
+-- Answers to the goals that the check of `workers_reexecute_the_least` leaves open.
 use Rattle.round_spec.proofs.ByWorkers.{reexecutes-made, reexecutes-alone}
 use Rattle.round_spec.proofs.workers_reexecute_the_least.Goals as goal
 

@@ -1,4 +1,4 @@
--- Answers to the goals that the check leaves of `workers_repeat_an_unedited_round`.
+-- Answers to the goals that the check of `workers_repeat_an_unedited_round` leaves open.
 use Rattle.round_spec.proofs.Workers.{workers-threads, workers-reuse}
 use Rattle.round_spec.proofs.workers_repeat_an_unedited_round.Goals as goal
 

@@ -1,4 +1,4 @@
--- The first steps are told, and what they leave is kept.
+-- Whether the first steps are reached is found, and what later steps need of them is kept.
 use Rattle.std.proofs.Common.{◌≡◌, map}
 use Rattle.std.specs.List.{range_with_len}
 use Rattle.round_spec.specs.Reach.{is_reached}

@@ -1,4 +1,4 @@
--- What holds at the loop of `last_length`.
+-- The invariant of the loop of `last_length`.
 use Rattle.std.proofs.Common.{◌≡◌, ℕ, drop, map}
 use Rattle.edit_list.specs.Said.{line_said}
 use Rattle.edit_list.specs.Lengths.{ComesTo, line_out_of_range}

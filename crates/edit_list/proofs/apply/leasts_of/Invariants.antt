@@ -1,4 +1,4 @@
--- What holds at the loop of `leasts_of`.
+-- The invariant of the loop of `leasts_of`.
 use Rattle.std.proofs.Common.{◌≡◌, ◌≤◌, drop, map, length}
 use Rattle.edit_list.specs.Said.{line_said}
 use Rattle.edit_list.specs.Lengths.{least, leasts}

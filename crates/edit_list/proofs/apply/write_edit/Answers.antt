@@ -1,4 +1,4 @@
--- What is left to prove of `write_edit`.
+-- Answers to the goals that the check of `write_edit` leaves open.
 use Rattle.std.proofs.Common.{◌≡◌, ◌≤◌, ◌+◌, length, min, sym, subst, arith}
 use Rattle.std.proofs.lemmas.Bool.Decides.{nat_tests}
 use Rattle.edit_list.specs.Showing.{Shows}

@@ -1,4 +1,4 @@
--- What is left to prove of `write_edits`.
+-- Answers to the goals that the check of `write_edits` leaves open.
 use Rattle.std.proofs.Common.{◌≡◌, ◌+◌, List, [], ◌∷◌, length, drop, map, min, slice_index_or, sym, ap, subst, ◌∙◌, arith}
 use Rattle.std.proofs.lemmas.List.{drop_more, drop_all, length-map}
 use Rattle.edit_spec.specs.Editing.{edited}

@@ -1,4 +1,4 @@
--- What holds at the loop of `write_edits`.
+-- The invariant of the loop of `write_edits`.
 use Rattle.std.proofs.Common.{◌≡◌, ℕ, List, drop, map, min, length}
 use Rattle.edit_spec.specs.Editing.{edited}
 use Rattle.edit_list.specs.Said.{line_said}

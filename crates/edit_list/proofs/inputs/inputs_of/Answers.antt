@@ -1,4 +1,4 @@
--- What is left to prove of `inputs_of`.
+-- Answers to the goals that the check of `inputs_of` leaves open.
 use Rattle.std.proofs.Common.{◌≤◌, length, take}
 use Rattle.std.proofs.lemmas.Result.{err_from_is_err_and}
 use Rattle.std.proofs.lemmas.List.Elements.{All-from_recursion}

@@ -1,4 +1,4 @@
--- What is left to prove of `after_word`.
+-- Answers to the goals that the check of `after_word` leaves open.
 use Rattle.std.proofs.lemmas.Bool.Decides.{Decides-eqb}
 use Rattle.std.proofs.lemmas.Slice.Eq.{strip_prefix_is}
 use Rattle.edit_list.proofs.line.after_word.Goals as goal

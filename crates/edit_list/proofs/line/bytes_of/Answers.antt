@@ -1,4 +1,4 @@
--- What is left to prove of `bytes_of`.
+-- Answers to the goals that the check of `bytes_of` leaves open.
 use Rattle.std.proofs.Common.{◌≡◌, ◌==◌, length, false, sym, ◌∙◌, arith}
 use Rattle.std.proofs.lemmas.Bool.Decides.{nat_tests}
 use Rattle.edit_list.proofs.Digits.{decoded_is_encoded, refused_by_decoder, some_bytes}

@@ -1,4 +1,4 @@
--- What is left to prove of `set_of`.
+-- Answers to the goals that the check of `set_of` leaves open.
 use Rattle.std.proofs.Common.{ℕ, List, sym, ◌∙◌, subst}
 use Rattle.std.specs.Prelude.{decimal}
 use Rattle.std.proofs.lemmas.Result.{err_from_is_err_and}

@@ -1,4 +1,4 @@
--- What is left to prove of `number_of`.
+-- Answers to the goals that the check of `number_of` leaves open.
 use Rattle.std.proofs.Common.{◌≡◌, ℕ, List, true, false, subst, sym, ◌∙◌}
 use Rattle.edit_list.specs.Numerals.{is_numeral}
 use Rattle.edit_list.proofs.Numerals.{numeral_is, is_numeral-decimal}

@@ -1,4 +1,4 @@
--- What is left to prove of `value_of`.
+-- Answers to the goals that the check of `value_of` leaves open.
 use Rattle.std.proofs.Common.{arith}
 use Rattle.edit_list.proofs.Numerals.{one_more, small_so_far}
 use Rattle.edit_list.proofs.number.value_of.Goals as goal

@@ -1,4 +1,4 @@
--- What holds at the loop of `value_of`.
+-- The invariant of the loop of `value_of`.
 use Rattle.std.proofs.Common.{◌≡◌, take}
 use Rattle.std.specs.Str.Parse.{digits_value}
 use Rattle.edit_list.proofs.number.value_of.Given as goal

@@ -1,4 +1,4 @@
--- What is left to prove of `add_line`.
+-- Answers to the goals that the check of `add_line` leaves open.
 use Rattle.std.proofs.Common.{◌≡◌, ◌==◌, ap, sym, false, ◌∙◌, arith, map, length}
 use Rattle.std.proofs.lemmas.Bool.Decides.{nat_tests}
 use Rattle.std.proofs.lemmas.List.{map_push}

@@ -1,4 +1,4 @@
--- What is left to prove of `parse`.
+-- Answers to the goals that the check of `parse` leaves open.
 use Rattle.std.proofs.Common.{◌+◌, ◌==◌, [], map, arith}
 use Rattle.std.specs.List.{slice_split}
 use Rattle.std.proofs.lemmas.Result.{err_from_is_err_and}

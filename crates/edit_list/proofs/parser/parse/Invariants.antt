@@ -1,4 +1,4 @@
--- What holds at the loop of `parse`.
+-- The invariant of the loop of `parse`.
 use Rattle.std.proofs.Common.{◌≤◌, ◌+◌, ◌==◌, map, length}
 use Rattle.std.specs.List.{slice_split}
 use Rattle.edit_list.specs.Said.{line_said}

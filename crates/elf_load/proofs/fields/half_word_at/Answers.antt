@@ -1,4 +1,4 @@
--- Answers to the goals that the check leaves of `half_word_at`.
+-- Answers to the goals that the check of `half_word_at` leaves open.
 use Rattle.elf_load.proofs.Words.{half_from_bytes}
 use Rattle.elf_load.proofs.fields.half_word_at.Goals as goal
 

@@ -1,4 +1,4 @@
--- Answers to the goals that the check leaves of `word_at`.
+-- Answers to the goals that the check of `word_at` leaves open.
 use Rattle.elf_load.proofs.Words.{word_from_bytes}
 use Rattle.elf_load.proofs.fields.word_at.Goals as goal
 

@@ -1,4 +1,4 @@
--- Answers to the goals that the check leaves of `header_read`.
+-- Answers to the goals that the check of `header_read` leaves open.
 use Rattle.std.proofs.Common.{◌≡◌, ◌<◌, ℕ, List, length, map, get_or, sym, ap, ◌∙◌, subst, zero-add}
 use Rattle.std.proofs.lemmas.List.{get_or-map, length-map}
 use Rattle.std.proofs.lemmas.List.FromFn.{length-map-range_with_len, get_or-map-range_with_len}
@@ -7,7 +7,7 @@ use Rattle.elf_load.specs.declared.header.Header.{Header}
 use Rattle.elf_load.specs.Header.{header_of}
 use Rattle.elf_load.proofs.header.header_read.Goals as goal
 
--- there are as many headers as the file says
+-- there are as many headers as the file states
 count_read :
     (bytes : List ℕ) (headers : List Header) → map header_of headers ≡ program_headers bytes
     → length headers ≡ e_phnum bytes
@@ -15,7 +15,7 @@ count_read bytes headers same =
     sym (length-map headers header_of) ∙ ap length same
     ∙ length-map-range_with_len (program_header bytes) 0 (e_phnum bytes)
 
--- the header of a number means the file's
+-- the header of a number is the file's
 nth_read :
     (bytes : List ℕ) (headers : List Header) (number : ℕ) (other : Header)
     → map header_of headers ≡ program_headers bytes → number < e_phnum bytes

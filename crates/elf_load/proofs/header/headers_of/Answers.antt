@@ -1,4 +1,4 @@
--- Answers to the goals that the check leaves of `headers_of`.
+-- Answers to the goals that the check of `headers_of` leaves open.
 use Rattle.std.proofs.Common.{List, [], ◌∷◌, ◌++◌, map, sym, ap, ap₂, ◌∙◌, zero-add}
 use Rattle.std.proofs.lemmas.List.{map-append}
 use Rattle.std.proofs.lemmas.List.FromFn.{map-range_with_len_more}

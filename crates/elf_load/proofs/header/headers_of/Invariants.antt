@@ -1,4 +1,4 @@
--- What holds at the loops of `headers_of`.
+-- The invariants of the loops of `headers_of`.
 use Rattle.std.proofs.Common.{◌≡◌, map}
 use Rattle.std.specs.List.{range_with_len}
 use Rattle.elf_spec.specs.Header.{program_header}

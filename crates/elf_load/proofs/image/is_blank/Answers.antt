@@ -1,4 +1,4 @@
--- What is left to prove of `is_blank`.
+-- Answers to the goals that the check of `is_blank` leaves open.
 use Rattle.std.proofs.Common.{rules, tests}
 use Rattle.std.proofs.lemmas.Bool.{MatchBool-at_true}
 use Rattle.std.proofs.lemmas.Iterator.{YieldsList-from_slice, cases_from_all}

@@ -1,4 +1,4 @@
--- What is left to prove of `page_bytes`.
+-- Answers to the goals that the check of `page_bytes` leaves open.
 use Rattle.std.proofs.Common.{◌+◌, ◌*◌, List, reverse, refl, ap, ◌∙◌}
 use Rattle.std.proofs.lemmas.Iterator.Adapters.{YieldsList-from_rev_slice}
 use Rattle.std.proofs.lemmas.Iterator.Consumers.{YieldsList-end}

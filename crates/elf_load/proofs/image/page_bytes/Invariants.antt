@@ -1,4 +1,4 @@
--- What holds at the loop of `page_bytes`.
+-- The invariant of the loop of `page_bytes`.
 use Rattle.std.proofs.Common.{◌≡◌, ◌<◌, ◌+◌, ◌*◌, ℕ, length, get_or, map, reverse}
 use Rattle.elf_load.proofs.Parts.{first_byte}
 use Rattle.elf_load.proofs.image.page_bytes.Given as goal

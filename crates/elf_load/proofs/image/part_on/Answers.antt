@@ -1,11 +1,11 @@
--- What is left to prove of `part_on`.
+-- Answers to the goals that the check of `part_on` leaves open.
 use Rattle.std.proofs.Common.{◌≡◌, ◌+◌, ◌*◌, ℕ, ap, ◌∙◌, arith}
 use Rattle.elf_load.specs.Header.{header_of}
 use Rattle.elf_load.specs.Place.{place_in_file}
 use Rattle.elf_load.proofs.Parts.{part_fits, part_has}
 use Rattle.elf_load.proofs.image.part_on.Goals as goal
 
--- the part is read from the segment's place at the page's first address to that at the first behind it
+-- the part is read from the segment's place at the page's first address up to its place at the first address after it
 from_place :
     (c : goal.After-result-1)
     → c.place_in_file-first.result

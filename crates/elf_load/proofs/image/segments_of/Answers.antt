@@ -1,4 +1,4 @@
--- Answers to the goals that the check leaves of `segments_of`.
+-- Answers to the goals that the check of `segments_of` leaves open.
 use Rattle.std.proofs.Common.{◌≡◌, Bool, true, false, cond, List, [], ◌∷◌, ◌++◌, map, sym, ap, ap₂, ◌∙◌, append-nil}
 use Rattle.std.proofs.lemmas.List.{map-append}
 use Rattle.elf_spec.specs.Header.{ProgramHeader, is_segment}
@@ -7,7 +7,7 @@ use Rattle.elf_load.specs.Header.{header_of}
 use Rattle.elf_load.proofs.Along.{segments_more}
 use Rattle.elf_load.proofs.image.segments_of.Goals as goal
 
--- what a list of headers means with one more, if a test holds
+-- what a list of headers is read as, with one more if a test holds
 map-pushed :
     (b : Bool) (headers : List Header) (header : Header)
     → map header_of (cond b (headers ++ header ∷ []) headers)

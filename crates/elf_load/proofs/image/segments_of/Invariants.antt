@@ -1,4 +1,4 @@
--- What holds at the loops of `segments_of`.
+-- The invariants of the loops of `segments_of`.
 use Rattle.std.proofs.Common.{◌≡◌, map}
 use Rattle.elf_load.specs.Header.{header_of, segments_below}
 use Rattle.elf_load.proofs.image.segments_of.Given as goal

@@ -1,4 +1,4 @@
--- One header more was looked at.
+-- One more header was looked at.
 use Rattle.std.proofs.Common.{◌≡◌, ◌<◌, ◌+◌, ℕ, Bool, true, false, cond, List, [], ◌∷◌, ◌++◌, length, get_or, take, filter, refl, sym, ap, ◌∙◌, append-nil, arith}
 use Rattle.std.proofs.lemmas.List.{take_more}
 use Rattle.std.proofs.lemmas.List.Elements.{filter-append}
@@ -7,12 +7,12 @@ use Rattle.elf_load.specs.declared.header.Header.{Header}
 use Rattle.elf_load.specs.Header.{header_of}
 use Rattle.elf_load.proofs.image.segments_on.Goals as goal
 
--- what a list is with one more, if a test holds
+-- a list, with one more element if a test holds
 pushed : (b : Bool) (found : List Header) (x : Header) → cond b (found ++ x ∷ []) found ≡ found ++ cond b (x ∷ []) []
 pushed true found x = refl
 pushed false found x = sym (append-nil found)
 
--- those of the first headers that pass a test, with one header more
+-- the first headers that pass a test, with one more header
 filter-next :
     (p : Header → Bool) (xs found new : List Header) (k : ℕ) (d : Header) → k < length xs
     → new ≡ cond (p (get_or xs k d)) (found ++ get_or xs k d ∷ []) found

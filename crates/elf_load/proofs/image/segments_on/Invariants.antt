@@ -1,4 +1,4 @@
--- What holds at the loops of `segments_on`.
+-- The invariants of the loops of `segments_on`.
 use Rattle.std.proofs.Common.{◌≡◌, filter, take}
 use Rattle.elf_spec.specs.Segments.{touches}
 use Rattle.elf_load.specs.Header.{header_of}

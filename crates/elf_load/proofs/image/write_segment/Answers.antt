@@ -1,4 +1,4 @@
--- What is left to prove of `write_segment`.
+-- Answers to the goals that the check of `write_segment` leaves open.
 use Rattle.std.proofs.Common.{◌≡◌, ◌<◌, ◌+◌, ◌-◌, ◌*◌, ℕ, Some, true, get_or, ap, ◌∙◌, arith}
 use Rattle.elf_spec.specs.Segments.{has_address}
 use Rattle.elf_spec.specs.Image.{segment_byte}

@@ -1,4 +1,4 @@
--- Answers to the goals that the check leaves of `add_page`.
+-- Answers to the goals that the check of `add_page` leaves open.
 use Rattle.std.proofs.Common.{◌≡◌, ℕ, List, arith, map, filter, fold, bit_or, ap, ◌∙◌}
 use Rattle.elf_spec.specs.Header.{ProgramHeader, segments}
 use Rattle.elf_spec.specs.Segments.{touches, page_permission, segment_permission}

@@ -1,4 +1,4 @@
--- Answers to the goals that the check leaves of `image_of`.
+-- Answers to the goals that the check of `image_of` leaves open.
 use Rattle.std.proofs.Common.{◌∙◌}
 use Rattle.elf_spec.specs.Image.{entry_of}
 use Rattle.elf_load.proofs.loader.image_of.Goals as goal

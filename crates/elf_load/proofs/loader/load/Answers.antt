@@ -1,4 +1,4 @@
--- Answers to the goals that the check leaves of `load`.
+-- Answers to the goals that the check of `load` leaves open.
 use Rattle.std.proofs.Common.{is_none, sym, ap, ◌∙◌}
 use Rattle.elf_spec.specs.Image.{is_image}
 use Rattle.elf_load.proofs.loader.load.Goals as goal

@@ -1,4 +1,4 @@
--- Answers to the goals that the check leaves of `pages_of`.
+-- Answers to the goals that the check of `pages_of` leaves open.
 use Rattle.std.proofs.Common.{◌≡◌, ◌+◌, ◌<◌, length, ℕ, Bool, true, false, cond, List, [], ◌∷◌, ◌++◌, map, filter, refl, sym, ap, ◌∙◌, arith, zero-add, append-nil}
 use Rattle.std.specs.List.{range_with_len, list_any}
 use Rattle.std.proofs.lemmas.List.{map-append, get_or_default}
@@ -12,7 +12,7 @@ use Rattle.elf_load.specs.Touched.{touched_below, mapped_at}
 use Rattle.elf_load.proofs.Searches.{range_split}
 use Rattle.elf_load.proofs.loader.pages_of.Goals as goal
 
--- the touched pages among one number more
+-- the touched pages with one more number
 touched_more :
     (bytes : List ℕ) (n : ℕ)
     → touched_below bytes (n + 1) ≡ touched_below bytes n ++ cond (list_any (touches n) (segments bytes)) (n ∷ []) []
@@ -21,7 +21,7 @@ touched_more bytes n =
     ap (filter test) (range_split 0 n 1) ∙ filter-append test (range_with_len 0 n) (range_with_len (0 + n) 1) ∙
     ap (λ k. touched_below bytes n ++ filter test (k ∷ [])) (zero-add n)
 
--- what a list of numbers gives with one more, if a test holds
+-- the images of a list of numbers, with one more if a test holds
 map-pushed :
     {X : Type 0} (f : ℕ → X) (b : Bool) (ns : List ℕ) (n : ℕ) (before : List X) → before ≡ map f ns
     → cond b (before ++ f n ∷ []) before ≡ map f (ns ++ cond b (n ∷ []) [])

@@ -1,4 +1,4 @@
--- What holds at the loops of `pages_of`.
+-- The invariants of the loops of `pages_of`.
 use Rattle.std.proofs.Common.{◌≡◌, map}
 use Rattle.std.specs.Arc.{arc_value}
 use Rattle.memory_spec.specs.Pages.{zero_page}

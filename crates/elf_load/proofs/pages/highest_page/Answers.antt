@@ -1,4 +1,4 @@
--- Answers to the goals that the check leaves of `highest_page`.
+-- Answers to the goals that the check of `highest_page` leaves open.
 use Rattle.std.proofs.Common.{ℕ, cond, max, sym, ap₂, ◌∙◌}
 use Rattle.elf_spec.specs.Header.{ProgramHeader, is_segment}
 use Rattle.elf_spec.specs.Segments.{last_page}

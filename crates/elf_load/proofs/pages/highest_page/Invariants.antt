@@ -1,4 +1,4 @@
--- What holds at the loops of `highest_page`.
+-- The invariants of the loops of `highest_page`.
 use Rattle.std.proofs.Common.{◌≡◌, ◌<◌, ◌^◌}
 use Rattle.elf_spec.specs.Segments.{highest_page}
 use Rattle.elf_load.specs.Header.{segments_below}

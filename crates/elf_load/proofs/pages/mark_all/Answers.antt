@@ -1,4 +1,4 @@
--- Answers to the goals that the check leaves of `mark_all`.
+-- Answers to the goals that the check of `mark_all` leaves open.
 use Rattle.std.proofs.Common.{◌<◌, ◌||◌, ◌&&◌, Bool, length, sym, ap, ap₂, ◌∙◌, subst}
 use Rattle.elf_spec.specs.Header.{ProgramHeader, is_segment}
 use Rattle.elf_spec.specs.Segments.{touches}

@@ -1,4 +1,4 @@
--- What holds at the loops of `mark_all`.
+-- The invariants of the loops of `mark_all`.
 use Rattle.std.proofs.Common.{◌≡◌, ◌<◌, ℕ, false, length, get_or}
 use Rattle.std.specs.List.{list_any}
 use Rattle.elf_spec.specs.Segments.{touches}

@@ -1,4 +1,4 @@
--- Answers to the goals that the check leaves of `mark_pages`.
+-- Answers to the goals that the check of `mark_pages` leaves open.
 use Rattle.std.proofs.Common.{◌≡◌, ◌<◌, ◌≤◌, ◌+◌, ◌⊎◌, ℕ, ◌&&◌, ◌||◌, min, false, nat_le, nat_lt, length, get_or, ap, ◌∙◌, arith, subst, sym}
 use Rattle.elf_load.proofs.pages.mark_pages.Goals as goal
 

@@ -1,4 +1,4 @@
--- Answers to the goals that the check leaves of `page_count`.
+-- Answers to the goals that the check of `page_count` leaves open.
 use Rattle.std.proofs.Common.{◌≤◌, ◌+◌, ℕ, Bool, true, false, cond, sym, ap₂, ◌∙◌, subst, arith}
 use Rattle.std.specs.List.{list_any}
 use Rattle.elf_spec.specs.Header.{segments}

@@ -1,4 +1,4 @@
--- What holds at the loops of `page_count`.
+-- The invariants of the loops of `page_count`.
 use Rattle.std.proofs.Common.{◌≡◌, ◌≤◌, length, filter}
 use Rattle.std.specs.List.{range_with_len, list_any}
 use Rattle.elf_spec.specs.Header.{segments}

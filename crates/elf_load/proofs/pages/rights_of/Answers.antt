@@ -1,4 +1,4 @@
--- Answers to the goals that the check leaves of `rights_of`.
+-- Answers to the goals that the check of `rights_of` leaves open.
 use Rattle.std.proofs.Common.{◌≡◌, ℕ, List, [], ◌∷◌, fold, take, map, bit_or, refl, ap, ◌∙◌, arith}
 use Rattle.std.proofs.lemmas.List.{take_all}
 use Rattle.elf_spec.specs.Segments.{segment_permission}
@@ -6,7 +6,7 @@ use Rattle.elf_load.specs.declared.header.Header.{Header}
 use Rattle.elf_load.specs.Header.{header_of}
 use Rattle.elf_load.proofs.pages.rights_of.Goals as goal
 
--- the rights together, from each header at once or from its meaning
+-- the union of the rights, from each header at once or from the segment that it is read as
 fold_meant :
     (rights : ℕ) (headers : List Header)
     → fold (λ (rights : ℕ) header. bit_or rights (segment_permission (header_of header))) rights headers

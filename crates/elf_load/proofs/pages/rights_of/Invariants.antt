@@ -1,4 +1,4 @@
--- What holds at the loops of `rights_of`.
+-- The invariants of the loops of `rights_of`.
 use Rattle.std.proofs.Common.{◌≡◌, ℕ, fold, take, bit_or}
 use Rattle.elf_spec.specs.Segments.{segment_permission}
 use Rattle.elf_load.specs.Header.{header_of}

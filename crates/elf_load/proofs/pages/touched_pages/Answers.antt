@@ -1,4 +1,4 @@
--- Answers to the goals that the check leaves of `touched_pages`.
+-- Answers to the goals that the check of `touched_pages` leaves open.
 use Rattle.std.proofs.Common.{◌≡◌, ◌<◌, ◌+◌, ◌++◌, length, take, drop, sym, ap, ◌∙◌, arith, subst}
 use Rattle.std.proofs.Math.Seq.{take-append_seam}
 use Rattle.elf_spec.specs.Header.{segments}

@@ -1,4 +1,4 @@
--- Answers to the goals that the check leaves of `first_header`.
+-- Answers to the goals that the check of `first_header` leaves open.
 use Rattle.std.proofs.Common.{sym, ◌∙◌, zero-add, arith, ◌<◌}
 use Rattle.elf_spec.specs.Header.{e_phnum}
 use Rattle.elf_load.specs.Questions.{test_of}

@@ -1,4 +1,4 @@
--- What holds at the loops of `first_header`.
+-- The invariants of the loops of `first_header`.
 use Rattle.std.proofs.Common.{◌≡◌, find, None}
 use Rattle.std.specs.List.{range_with_len}
 use Rattle.elf_load.specs.Questions.{test_of}

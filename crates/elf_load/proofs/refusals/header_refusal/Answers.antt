@@ -1,4 +1,4 @@
--- Answers to the goals that the check leaves of `header_refusal`.
+-- Answers to the goals that the check of `header_refusal` leaves open.
 use Rattle.std.proofs.Common.{[], ◌∷◌, sym, ◌∙◌}
 use Rattle.elf_spec.specs.Refusals.{not_elf, not_elf32, not_exec, not_riscv, compressed, entry_size}
 use Rattle.elf_load.proofs.Given.{skip, stop, last}

@@ -1,4 +1,4 @@
--- Answers to the goals that the check leaves of `overlap`.
+-- Answers to the goals that the check of `overlap` leaves open.
 use Rattle.std.proofs.Common.{◌≡◌, ◌+◌, ◌-◌, ℕ, Bool, List, Some, None, find, map, option_map, sym, ap, ◌∙◌, arith}
 use Rattle.std.specs.List.{range_with_len}
 use Rattle.elf_spec.specs.declared.Refusal.TheVariants.{Overlap}
@@ -7,7 +7,7 @@ use Rattle.elf_spec.specs.Refusals.{overlaps}
 use Rattle.elf_load.proofs.Searches.{rows_more, rows_here, find-map}
 use Rattle.elf_load.proofs.refusals.overlap.Goals as goal
 
--- the pairs of a number with the later ones
+-- the pairs of a number with each later one
 row : ℕ → ℕ → List (ℕ × ℕ)
 row total i = map (λ j. (i, j)) (range_with_len (i + 1) (total - (i + 1)))
 

@@ -1,4 +1,4 @@
--- What holds at the loops of `overlap`.
+-- The invariants of the loops of `overlap`.
 use Rattle.std.proofs.Common.{◌≡◌, ◌+◌, ◌-◌, ℕ, map, find, flat_map, None}
 use Rattle.std.specs.List.{range_with_len}
 use Rattle.elf_spec.specs.Header.{program_header, e_phnum}

@@ -1,4 +1,4 @@
--- Answers to the goals that the check leaves of `overlap_from`.
+-- Answers to the goals that the check of `overlap_from` leaves open.
 use Rattle.std.proofs.Common.{◌≡◌, ◌+◌, ◌-◌, ℕ, Bool, true, false, None, find, sym, ◌∙◌, ap₂, subst, arith}
 use Rattle.std.specs.List.{range_with_len}
 use Rattle.elf_spec.specs.Header.{program_header, e_phnum}

@@ -1,4 +1,4 @@
--- What holds at the loops of `overlap_from`.
+-- The invariants of the loops of `overlap_from`.
 use Rattle.std.proofs.Common.{◌≡◌, ◌-◌, find, None}
 use Rattle.std.specs.List.{range_with_len}
 use Rattle.elf_spec.specs.Header.{program_header}

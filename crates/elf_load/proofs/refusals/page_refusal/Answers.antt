@@ -1,4 +1,4 @@
--- Answers to the goals that the check leaves of `page_refusal`.
+-- Answers to the goals that the check of `page_refusal` leaves open.
 use Rattle.std.proofs.Common.{◌≡◌, ℕ, List, map, filter, ap, ◌∙◌}
 use Rattle.elf_spec.specs.Header.{segments}
 use Rattle.elf_spec.specs.Segments.{touches}

@@ -1,4 +1,4 @@
--- Answers to the goals that the check leaves of `refusal`.
+-- Answers to the goals that the check of `refusal` leaves open.
 use Rattle.std.proofs.Common.{◌≡◌, ℕ, List, ◌++◌, Option, None, sym, ◌∙◌, subst}
 use Rattle.std.specs.Prelude.{IfOk}
 use Rattle.elf_spec.specs.declared.Refusal.{Refusal}
@@ -7,7 +7,7 @@ use Rattle.elf_load.specs.Rows.{header_rows, table_rows, page_rows}
 use Rattle.elf_load.proofs.Given.{skip_all, stop_within}
 use Rattle.elf_load.proofs.refusals.refusal.Goals as goal
 
--- the rows behind those of the header
+-- the rows after those of the header
 later_rows : List ℕ → List (Option Refusal)
 later_rows bytes = table_rows bytes ++ page_rows bytes
 
@@ -18,7 +18,7 @@ returns-in-Some c =
     sym (stop_within (header_rows bytes) (later_rows bytes) c.in-Some.refusal
     (sym c.header_refusal.ensures ∙ c.in-Some.is))
 
--- where the header and the program headers get no refusal, the pages decide
+-- if the header and the program headers get no refusal, the pages decide
 past_tables :
     (bytes : List ℕ) → first_given (header_rows bytes) ≡ None → first_given (table_rows bytes) ≡ None
     → refusal_of bytes ≡ first_given (page_rows bytes)

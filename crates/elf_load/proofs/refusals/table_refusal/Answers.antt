@@ -1,4 +1,4 @@
--- Answers to the goals that the check leaves of `table_refusal`.
+-- Answers to the goals that the check of `table_refusal` leaves open.
 use Rattle.std.proofs.Common.{[], ◌∷◌, sym, ◌∙◌}
 use Rattle.elf_spec.specs.Refusals.{short_table, dynamic, short_segment, outside, overlap}
 use Rattle.elf_load.proofs.Given.{skip, stop, last}

@@ -1,4 +1,4 @@
--- What is left to prove of `input_of`.
+-- Answers to the goals that the check of `input_of` leaves open.
 use Rattle.std.proofs.Common.{ℕ, ◌-◌, List, ◌++◌, map, refl, ap, arith}
 use Rattle.guest_gen.specs.declared.TheConstants.{INPUT_BYTES}
 use Rattle.guest_gen.specs.Generated.{values_after, highest_byte, input_of}

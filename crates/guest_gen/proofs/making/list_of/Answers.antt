@@ -1,4 +1,4 @@
--- What is left to prove of `list_of`.
+-- Answers to the goals that the check of `list_of` leaves open.
 use Rattle.std.proofs.Common.{◌≡◌, length, ap, ◌∙◌, arith}
 use Rattle.guest_gen.specs.declared.TheConstants.{INPUT_BYTES}
 use Rattle.guest_gen.proofs.Inputs.{length-input_of}

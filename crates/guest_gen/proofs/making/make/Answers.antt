@@ -1,4 +1,4 @@
--- What is left to prove of `make`.
+-- Answers to the goals that the check of `make` leaves open.
 use Rattle.std.proofs.Common.{◌≡◌, ◌+◌, length, ap, ◌∙◌, arith}
 use Rattle.rv_asm.specs.Items.{items_bytes}
 use Rattle.guest_gen.specs.declared.guest.TheConstants.{BASE, ITEMS, ZEROS}

@@ -1,8 +1,8 @@
--- What holds at the loop of `served`.
+-- The invariant of the loop of `served`.
 use Rattle.std.proofs.Common.{◌≡◌, ◌++◌, drop}
 use Rattle.history_spec.specs.Facts.{returning}
 use Rattle.history_facts.proofs.serving.served.Given as goal
 
--- the threads so far, with those of the woken that are left
+-- the threads so far, with the woken ones that remain
 abbrev pub invariant-loop-thread : goal.invariant-loop-thread
 invariant-loop-thread l = l.threads.items ++ drop l.thread-index l.woken ≡ returning l.t l.effect.fate ++ l.woken

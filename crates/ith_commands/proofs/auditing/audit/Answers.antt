@@ -1,4 +1,4 @@
--- Answers to the goals that the check leaves of `audit`.
+-- Answers to the goals that the check of `audit` leaves open.
 use Rattle.std.proofs.Common.{◌≡◌, ℕ, Option, subst, ◌∙◌, inl, inr}
 use Rattle.std.proofs.lemmas.Result.{err_from_is_err_and}
 use Rattle.ith_words.specs.Words.{Audits}

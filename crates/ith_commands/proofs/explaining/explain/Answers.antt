@@ -1,4 +1,4 @@
--- How a line that tells why steps were executed ends, from how its parts did.
+-- How a `why` command ends, from how its parts did.
 use Rattle.std.proofs.Common.{inl, inr}
 use Rattle.std.proofs.lemmas.Result.{err_from_is_err_and}
 use Rattle.ith_words.specs.Words.{Explains}

@@ -1,4 +1,4 @@
--- The plan of the rerun that a line explains is the line's, and so is how it ends if there is none.
+-- The plan of the rerun that a `why` command explains is the command's, and so is how it ends if there is none.
 use Rattle.std.proofs.Common.{subst}
 use Rattle.std.specs.Prelude.{IfOk, IfErr}
 use Rattle.std.proofs.lemmas.Result.{err_from_is_err_and}

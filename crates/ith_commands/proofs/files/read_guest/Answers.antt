@@ -1,4 +1,4 @@
--- Answers to the goals that the check leaves of `read_guest`.
+-- Answers to the goals that the check of `read_guest` leaves open.
 use Rattle.std.proofs.Common.{[], ◌∷◌}
 use Rattle.std.proofs.lemmas.Result.{err_from_is_err_and}
 use Rattle.ith_commands.specs.Files.{elf_named, input_named}

@@ -1,4 +1,4 @@
--- Answers to the goals that the check leaves of `read_lists`.
+-- Answers to the goals that the check of `read_lists` leaves open.
 use Rattle.std.proofs.Common.{refl}
 use Rattle.std.proofs.lemmas.Result.{err_from_is_err_and}
 use Rattle.ith_commands.proofs.Worlds.{stays_same, none_fell_same}

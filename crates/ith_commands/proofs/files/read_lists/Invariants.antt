@@ -1,4 +1,4 @@
--- What holds at the loops of `read_lists`.
+-- The invariants of the loops of `read_lists`.
 use Rattle.ith_commands.proofs.Reading.{IsReading}
 use Rattle.ith_commands.proofs.files.read_lists.Given as goal
 

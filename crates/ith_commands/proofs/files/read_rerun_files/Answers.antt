@@ -1,4 +1,4 @@
--- Answers to the goals that the check leaves of `read_rerun_files`.
+-- Answers to the goals that the check of `read_rerun_files` leaves open.
 use Rattle.std.proofs.Common.{[], ◌∷◌}
 use Rattle.std.proofs.lemmas.Result.{err_from_is_err_and}
 use Rattle.ith_words.specs.Said.{rerun_said}

@@ -1,4 +1,4 @@
--- Why there are no inputs of a rerun.
+-- Why a rerun has no inputs.
 use Rattle.std.proofs.lemmas.Result.{err_from_is_err_and}
 use Rattle.ith_commands.proofs.plan.edit_again.Goals as goal
 

@@ -1,4 +1,4 @@
--- How a line ends that has no plan, and what holds of its plan.
+-- How a command line without a plan ends, and what holds of its plan.
 use Rattle.std.proofs.Common.{rules, ◌≡◌, true}
 use Rattle.std.proofs.lemmas.Result.{err_from_is_err_and}
 use Rattle.elf_spec.specs.Image.{is_image}

@@ -1,4 +1,4 @@
--- How a rerun ends that has no plan, and what holds of its plan.
+-- How a rerun without a plan ends, and what holds of its plan.
 use Rattle.std.proofs.Common.{rules, ◌≡◌, ◌∙◌, ap}
 use Rattle.std.proofs.lemmas.Result.{err_from_is_err_and}
 use Rattle.edit_list.specs.Lists.{bytes_of_each}

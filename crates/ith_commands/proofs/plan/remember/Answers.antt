@@ -1,4 +1,4 @@
--- Why no history was had from the memo of a name.
+-- Why the memo of a name gave no history.
 use Rattle.std.proofs.Common.{[], ◌∷◌}
 use Rattle.std.proofs.lemmas.Result.{err_from_is_err_and}
 use Rattle.ith_commands.specs.Files.{memo_named}

@@ -1,4 +1,4 @@
--- What holds at the loop of `all_executed`.
+-- The invariant of the loop of `all_executed`.
 use Rattle.std.proofs.Common.{◌≡◌, take}
 use Rattle.rerun_spec.specs.Reports as reports
 use Rattle.ith_commands.proofs.replaying.all_executed.Given as goal

@@ -1,4 +1,4 @@
--- What a line replays, and how it ends if nothing is.
+-- What a `replay` command replays, and how it ends if it replays nothing.
 use Rattle.std.proofs.Common.{rules, ◌≡◌, true, refl}
 use Rattle.std.proofs.lemmas.Result.{err_from_is_err_and}
 use Rattle.elf_spec.specs.Image.{is_image}

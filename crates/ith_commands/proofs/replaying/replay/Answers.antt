@@ -1,4 +1,4 @@
--- How a line that replays a schedule ends, from how its parts did.
+-- How a `replay` command ends, from how its parts did.
 use Rattle.std.proofs.Common.{inl, sym}
 use Rattle.std.specs.Prelude.{Ok}
 use Rattle.std.proofs.lemmas.Result.{err_from_is_err_and}

@@ -1,4 +1,4 @@
--- Answers to the goals that the check leaves of `show`.
+-- Answers to the goals that the check of `show` leaves open.
 use Rattle.std.proofs.Common.{◌≡◌, ◌∙◌, inl, inr}
 use Rattle.std.proofs.lemmas.Result.{err_from_is_err_and}
 use Rattle.memo_reports.specs.Listing.{listing}

@@ -1,4 +1,4 @@
--- Answers to the goals that the check leaves of `read_to_limit`.
+-- Answers to the goals that the check of `read_to_limit` leaves open.
 use Rattle.std.proofs.Common.{rules, arith, ℕ, List, take, ◌++◌, length, ◌+◌, ◌≤◌, length-append, length-take}
 use Rattle.std.specs.Io.KnownBytes.{Consumes}
 use Rattle.ith_host.proofs.Known.{Consumes-more}

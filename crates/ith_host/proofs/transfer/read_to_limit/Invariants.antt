@@ -1,9 +1,9 @@
--- What holds at the loops of `read_to_limit`.
+-- The invariants of the loops of `read_to_limit`.
 use Rattle.std.proofs.Common.{length, ◌-◌, ◌≤◌, ◌≡◌}
 use Rattle.std.specs.Io.KnownBytes.{Consumes}
 use Rattle.ith_host.proofs.transfer.read_to_limit.Given as goal
 
--- what was taken so far is within the limit, and stands in the vector; there was no error
+-- what was taken so far is within the limit, and is in the vector; there was no error
 abbrev pub invariant-loop-count : goal.invariant-loop-count
 invariant-loop-count g l =
     (length l.into.items ≤ l.limit)

@@ -1,4 +1,4 @@
--- Answers to the goals that the check leaves of `write_to_end`.
+-- Answers to the goals that the check of `write_to_end` leaves open.
 use Rattle.std.proofs.Common.{rules, arith, take, drop, take-add, length, length-take, ◌++◌, ◌+◌, ◌-◌, ◌≤◌, ◌≡◌, ◌∙◌, ap, sym, ℕ, List}
 use Rattle.std.proofs.lemmas.List.{take_rest}
 use Rattle.std.specs.Io.KnownBytes.{Appends}

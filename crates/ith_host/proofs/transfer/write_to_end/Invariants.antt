@@ -1,9 +1,9 @@
--- What holds at the loops of `write_to_end`.
+-- The invariants of the loops of `write_to_end`.
 use Rattle.std.proofs.Common.{length, take, ◌-◌, ◌≤◌, ◌≡◌}
 use Rattle.std.specs.Io.KnownBytes.{Appends}
 use Rattle.ith_host.proofs.transfer.write_to_end.Given as goal
 
--- the bytes that are done stand behind what the sink held; there was no error
+-- the bytes that were written come after what the sink held; there was no error
 abbrev pub invariant-loop-done : goal.invariant-loop-done
 invariant-loop-done g l =
     (l.done ≤ length l.bytes) × Appends (g.S.Write.contents l.fn.sink.inner) (g.S.Write.contents l.sink.inner)

@@ -1,4 +1,4 @@
--- What is left to prove of `u16_of`.
+-- Answers to the goals that the check of `u16_of` leaves open.
 use Rattle.std.proofs.Common.{rules}
 use Rattle.ith_text.proofs.Encoding.{encoded_two}
 use Rattle.ith_text.proofs.cursor.u16_of.Goals as goal

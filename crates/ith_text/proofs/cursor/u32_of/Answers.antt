@@ -1,4 +1,4 @@
--- What is left to prove of `u32_of`.
+-- Answers to the goals that the check of `u32_of` leaves open.
 use Rattle.std.proofs.Common.{rules}
 use Rattle.ith_text.proofs.Encoding.{encoded_four}
 use Rattle.ith_text.proofs.cursor.u32_of.Goals as goal

@@ -1,4 +1,4 @@
--- What is left to prove of `u64_of`.
+-- Answers to the goals that the check of `u64_of` leaves open.
 use Rattle.std.proofs.Common.{rules}
 use Rattle.ith_text.proofs.Encoding.{encoded_eight}
 use Rattle.ith_text.proofs.cursor.u64_of.Goals as goal

@@ -1,4 +1,4 @@
--- How a line that runs the generated guest ends, from how its parts did.
+-- How a `gen` command ends, from how its parts did.
 use Rattle.std.proofs.Common.{refl}
 use Rattle.std.proofs.lemmas.Result.{err_from_is_err_and}
 use Rattle.ith_words.specs.Said.{generate_said}

@@ -1,4 +1,4 @@
--- Both rounds of the generated guest, the second by what the first leaves.
+-- Both rounds of the generated guest, the second based on the history of the first.
 use Rattle.std.proofs.Common.{rules, ◌≡◌, ◌∷◌, ◌∙◌, ◌&&◌, ap, length, subst, arith}
 use Rattle.rerun_spec.specs.Inputs.{AreShort}
 use Rattle.rerun_spec.specs.Rounds.{Beginning}

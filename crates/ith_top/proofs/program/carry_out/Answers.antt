@@ -1,4 +1,4 @@
--- Answers to the goals that the check leaves of `carry_out`.
+-- Answers to the goals that the check of `carry_out` leaves open.
 use Rattle.std.proofs.Common.{◌∙◌, sym, subst, inl}
 use Rattle.std.proofs.lemmas.Result.{err_from_is_err_and}
 use Rattle.memo_spec.specs.Encoding.{IsEncodable}

@@ -1,4 +1,4 @@
--- Answers to the goals that the check leaves of `rerun`.
+-- Answers to the goals that the check of `rerun` leaves open.
 use Rattle.std.proofs.Common.{inl, inr}
 use Rattle.std.proofs.lemmas.Result.{err_from_is_err_and}
 use Rattle.ith_words.specs.Words.{Line, Reruns}

@@ -1,4 +1,4 @@
--- What was made is the round that comes next, told as its definitions say.
+-- The round that was made is the next one, reported as its definitions say.
 use Rattle.std.proofs.Common.{rules, ◌≡◌, ◌+◌, Some, ap, refl, ◌∙◌}
 use Rattle.history_spec.specs.History.{History}
 use Rattle.std.specs.Prelude.{option_map}

@@ -1,4 +1,4 @@
--- What holds at the loops of `make_rounds`.
+-- The invariants of the loops of `make_rounds`.
 use Rattle.std.proofs.Common.{◌≡◌, ◌+◌, ◌^◌, ◌<◌, None, length}
 use Rattle.std.specs.Prelude.{option_map}
 use Rattle.std.specs.Arc.{arc_value}
@@ -8,8 +8,8 @@ use Rattle.ith_commands.specs.Playing.{beginning_said, plan_said}
 use Rattle.ith_top.proofs.Going.{IsGoing}
 use Rattle.ith_top.proofs.rounds.make_rounds.Given as goal
 
--- the rounds so far were made and printed; each input that is left is that of a round to come, which can be made; and
--- once there was a round, it left a history; as many rounds were made as inputs were taken
+-- the rounds so far were made and printed; each remaining input is that of a round to come, which can be made; after
+-- the first round there is a history; and as many rounds were made as inputs were taken
 abbrev pub invariant-loop-place : goal.invariant-loop-place
 invariant-loop-place g l = record {
   going : IsGoing (plan_said l.fn.plan).beginning l.fn.crew.workers l.fn.plan.inputs

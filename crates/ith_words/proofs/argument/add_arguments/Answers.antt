@@ -1,4 +1,4 @@
--- One operand or option more was added.
+-- One more operand or option was added.
 use Rattle.std.proofs.Common.{◌≡◌, ◌<◌, ◌+◌, ◌++◌, ℕ, List, [], ◌∷◌, length, get_or, map, take, sym, ap, ◌∙◌, append_assoc, arith}
 use Rattle.std.proofs.lemmas.List.{map-append, take_more}
 use Rattle.clap.specs.Words.{Rule, rule_of}
@@ -8,7 +8,7 @@ use Rattle.ith_words.specs.declared.argument.Argument.{Argument}
 use Rattle.ith_words.proofs.Arguments.{local_push}
 use Rattle.ith_words.proofs.argument.add_arguments.Goals as goal
 
--- the rules of arguments with one more
+-- the rules of arguments, with one more
 rules-next :
     (words : List Argument) (args more : List Arg) (arg : Arg) (before : List Rule) (k : ℕ) (d : Argument)
     → k < length words → more ≡ args ++ arg ∷ []

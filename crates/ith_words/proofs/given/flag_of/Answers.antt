@@ -1,4 +1,4 @@
--- Answers to the goals that the check leaves of `flag_of`.
+-- Answers to the goals that the check of `flag_of` leaves open.
 use Rattle.std.proofs.Common.{◌∙◌}
 use Rattle.clap.specs.Words.{found_of}
 use Rattle.ith_words.proofs.Rows.{flag_read}

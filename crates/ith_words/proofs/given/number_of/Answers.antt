@@ -1,4 +1,4 @@
--- Answers to the goals that the check leaves of `number_of`.
+-- Answers to the goals that the check of `number_of` leaves open.
 use Rattle.std.proofs.Common.{◌∙◌, arith}
 use Rattle.clap.specs.Words.{found_of}
 use Rattle.ith_words.proofs.Rows.{number_read, number_unread, taken_within, taken_below, taken_above}

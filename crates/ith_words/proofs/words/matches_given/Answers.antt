@@ -1,4 +1,4 @@
--- What was found is what the definitions say, since the command line is a simple one.
+-- The parser's findings are those of the definitions, since the command line is a simple one.
 use Rattle.std.proofs.Common.{◌≡◌, List, [], ap, subst, ◌∙◌}
 use Rattle.std.specs.Prelude.{map, string_bytes}
 use Rattle.clap.specs.Simple.{is_simple}

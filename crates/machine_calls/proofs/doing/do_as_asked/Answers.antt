@@ -1,4 +1,4 @@
--- What is left to prove of `do_as_asked`.
+-- Answers to the goals that the check of `do_as_asked` leaves open.
 use Rattle.std.proofs.Common.{◌≡◌, length, inl, inr, ap, arith}
 use Rattle.std.proofs.lemmas.Result.{err_from_is_err_and}
 use Rattle.thunk_spec.specs.Put.{is_readable}

@@ -1,10 +1,10 @@
--- What holds at the loop of `wake`.
+-- The invariant of the loop of `wake`.
 use Rattle.std.proofs.Common.{◌≡◌, ◌≤◌, ◌+◌, drop, vec_len}
 use Rattle.machine_spec.specs.Performing.{woken}
 use Rattle.machine_calls.specs.Views.{AreViewsOf}
 use Rattle.machine_calls.proofs.performing.wake.Given as goal
 
--- what was woken, and the rest after it, are all; and each of them had one view at most
+-- the woken threads so far, and the others, are all; and each of them has one view at most
 abbrev pub invariant-loop-i : goal.invariant-loop-i
 invariant-loop-i g l =
     let pages = g.V.View.pages in

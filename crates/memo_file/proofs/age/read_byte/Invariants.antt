@@ -1,4 +1,4 @@
--- The pages that are left tell what all do.
+-- The remaining pages determine the byte as all do.
 use Rattle.std.proofs.Common.{◌≡◌, drop}
 use Rattle.memo_spec.specs.Old.{read_byte}
 use Rattle.memo_file.proofs.age.read_byte.Given as goal

@@ -1,4 +1,4 @@
--- Answers to the goals that the check leaves of `refuse_before_locks`.
+-- Answers to the goals that the check of `refuse_before_locks` leaves open.
 use Rattle.std.proofs.Common.{◌≡◌, ℕ, suc, ◌-◌, length, Some, sym, ap, ◌∙◌, arith}
 use Rattle.std.specs.Prelude.{slice_get}
 use Rattle.memo_spec.specs.declared.Refusal.TheVariants.{Old}

@@ -1,4 +1,4 @@
--- Answers to the goals that the check leaves of `stored_in`.
+-- Answers to the goals that the check of `stored_in` leaves open.
 use Rattle.std.proofs.Common.{◌≡◌, false, true, sym, ◌∙◌, arith}
 use Rattle.std.specs.Prelude.{slice_index_or}
 use Rattle.page_store.specs.declared.stored.StoredPage.{StoredPage}

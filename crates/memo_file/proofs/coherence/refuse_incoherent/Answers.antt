@@ -1,4 +1,4 @@
--- Answers to the goals that the check leaves of `refuse_incoherent`.
+-- Answers to the goals that the check of `refuse_incoherent` leaves open.
 use Rattle.std.proofs.Common.{◌≡◌, ℕ, Option, Some, ap, sym, ◌∙◌, arith, rules}
 use Rattle.std.specs.Prelude.{slice_get}
 use Rattle.memo_spec.specs.Reading.{incoherent_from, coherent_or}

@@ -1,4 +1,4 @@
--- What is still applied, from the machine so far on, tells what is told of all.
+-- Applying the remaining records, from the machine so far on, determines the same as applying all.
 use Rattle.std.proofs.Common.{◌≡◌, drop}
 use Rattle.memo_spec.specs.Reading.{incoherent_from}
 use Rattle.memo_file.proofs.coherence.refuse_incoherent.Given as goal

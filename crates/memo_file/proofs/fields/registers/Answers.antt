@@ -1,4 +1,4 @@
--- Answers to the goals that the check leaves of `registers`.
+-- Answers to the goals that the check of `registers` leaves open.
 use Rattle.std.proofs.Common.{◌≡◌, take, length, arith}
 use Rattle.std.specs.Int.{w32}
 use Rattle.std.proofs.lemmas.Result.{err_from_is_err_and}

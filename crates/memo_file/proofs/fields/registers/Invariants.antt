@@ -1,4 +1,4 @@
--- The words so far, and those still read, are all.
+-- The words so far, and those still to be read, are all.
 use Rattle.std.proofs.Common.{◌≡◌, ◌-◌, take, length}
 use Rattle.std.specs.Int.{w32}
 use Rattle.memo_spec.specs.Reader.{number_at, each}

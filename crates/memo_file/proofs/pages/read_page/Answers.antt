@@ -1,4 +1,4 @@
--- What is left to prove of `read_page`.
+-- Answers to the goals that the check of `read_page` leaves open.
 use Rattle.std.proofs.lemmas.Result.{err_from_is_err_and}
 use Rattle.memo_spec.specs.Reading.{read_page_at}
 use Rattle.memo_file.proofs.Loops.{part_fails}

@@ -1,4 +1,4 @@
--- Answers to the goals that the check leaves of `read_pages`.
+-- Answers to the goals that the check of `read_pages` leaves open.
 use Rattle.std.proofs.Common.{◌≡◌, map, arith, suc, ◌+◌}
 use Rattle.std.specs.Arc.{arc_value}
 use Rattle.std.proofs.lemmas.Result.{err_from_is_err_and}

@@ -1,4 +1,4 @@
--- What was read so far, and what is still read, is all.
+-- What was read so far, and what is still to be read, is all.
 use Rattle.std.proofs.Common.{◌≡◌, ◌-◌, map}
 use Rattle.std.specs.Arc.{arc_value}
 use Rattle.memo_spec.specs.Reader.{chain}

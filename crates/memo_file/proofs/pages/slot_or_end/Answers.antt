@@ -1,4 +1,4 @@
--- Answers to the goals that the check leaves of `slot_or_end`.
+-- Answers to the goals that the check of `slot_or_end` leaves open.
 use Rattle.std.proofs.Common.{◌≤◌, ◌^◌, sym, ◌∙◌, arith}
 use Rattle.memo_file.proofs.Aging.{no_slot}
 use Rattle.memo_file.proofs.pages.slot_or_end.Goals as goal

@@ -1,4 +1,4 @@
--- Answers to the goals that the check leaves of `pool_page`.
+-- Answers to the goals that the check of `pool_page` leaves open.
 use Rattle.std.specs.Arc.{arc_value}
 use Rattle.std.proofs.Common.{map}
 use Rattle.std.proofs.lemmas.Map.Text.{btree_map_updates_str}

@@ -1,4 +1,4 @@
--- The pages so far are known, and with those still read they are all.
+-- The pages so far are known, and with those still to be read they are all.
 use Rattle.std.proofs.Common.{◌≡◌, ◌-◌, [], map}
 use Rattle.std.specs.Arc.{arc_value}
 use Rattle.memo_spec.specs.Reader.{chain}

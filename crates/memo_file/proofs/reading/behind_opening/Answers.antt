@@ -1,4 +1,4 @@
--- Answers to the goals that the check leaves of `behind_opening`.
+-- Answers to the goals that the check of `behind_opening` leaves open.
 use Rattle.memo_file.proofs.Ending.{opened}
 use Rattle.memo_file.proofs.reading.behind_opening.Goals as goal
 

@@ -1,4 +1,4 @@
--- What is left to prove of `pool_and_records`.
+-- Answers to the goals that the check of `pool_and_records` leaves open.
 use Rattle.std.proofs.Common.{◌≡◌, rules}
 use Rattle.std.proofs.lemmas.Result.{err_from_is_err_and}
 use Rattle.memo_spec.specs.Reading.{pool_and_records_at}

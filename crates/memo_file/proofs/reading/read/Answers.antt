@@ -1,4 +1,4 @@
--- Answers to the goals that the check leaves of `read`.
+-- Answers to the goals that the check of `read` leaves open.
 use Rattle.std.proofs.Common.{◌∙◌}
 use Rattle.std.proofs.lemmas.Result.{err_from_is_err_and}
 use Rattle.memo_spec.specs.Reading.{reading}

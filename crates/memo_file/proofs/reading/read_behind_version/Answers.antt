@@ -1,4 +1,4 @@
--- Answers to the goals that the check leaves of `read_behind_version`.
+-- Answers to the goals that the check of `read_behind_version` leaves open.
 use Rattle.memo_file.proofs.Ending.{first_version}
 use Rattle.memo_file.proofs.reading.read_behind_version.Goals as goal
 

@@ -1,4 +1,4 @@
--- Answers to the goals that the check leaves of `read_history`.
+-- Answers to the goals that the check of `read_history` leaves open.
 use Rattle.std.proofs.Common.{◌≡◌, rules}
 use Rattle.memo_file.proofs.Ending.{history, history_taken, map_is}
 use Rattle.memo_file.proofs.Sizes.{small_pages, read_is_mapped}

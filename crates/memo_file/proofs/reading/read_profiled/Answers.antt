@@ -1,4 +1,4 @@
--- Answers to the goals that the check leaves of `read_profiled`.
+-- Answers to the goals that the check of `read_profiled` leaves open.
 use Rattle.std.proofs.lemmas.Result.{err_from_is_err_and}
 use Rattle.memo_file.proofs.Ending.{profile_fails, profile_read, profile_leaves}
 use Rattle.memo_file.proofs.reading.read_profiled.Goals as goal

@@ -1,4 +1,4 @@
--- Answers to the goals that the check leaves of `read_text`.
+-- Answers to the goals that the check of `read_text` leaves open.
 use Rattle.std.proofs.Common.{◌≡◌, ◌≢◌, length, sym, ◌∙◌, arith}
 use Rattle.std.proofs.lemmas.Result.{err_from_is_err_and}
 use Rattle.memo_file.proofs.Ending.{history_fails, bytes_left, none_left, judge_fails, are_bytes}

@@ -1,4 +1,4 @@
--- The records so far, and those still read, are all.
+-- The records so far, and those still to be read, are all.
 use Rattle.std.proofs.Common.{◌≡◌, ◌-◌, [], map, length}
 use Rattle.std.specs.Arc.{arc_value}
 use Rattle.memo_spec.specs.Reader.{chain}

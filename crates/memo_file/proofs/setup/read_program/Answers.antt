@@ -1,4 +1,4 @@
--- Answers to the goals that the check leaves of `read_program`.
+-- Answers to the goals that the check of `read_program` leaves open.
 use Rattle.std.proofs.Common.{◌≡◌, ◌∙◌, rules}
 use Rattle.memo_file.proofs.Accepting.{elf_taken}
 use Rattle.memo_file.proofs.setup.read_program.Goals as goal

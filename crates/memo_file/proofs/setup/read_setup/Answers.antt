@@ -1,4 +1,4 @@
--- Answers to the goals that the check leaves of `read_setup`: the setup is read part by part.
+-- Answers to the goals that the check of `read_setup` leaves open: the setup is read part by part.
 use Rattle.std.proofs.Common.{sym, ap, ◌∙◌}
 use Rattle.std.proofs.lemmas.Result.{err_from_is_err_and}
 use Rattle.memo_file.proofs.Setting.{elf_fails, input_fails, limits_fail, all_read, found}

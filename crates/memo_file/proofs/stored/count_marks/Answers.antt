@@ -1,4 +1,4 @@
--- Answers to the goals that the check leaves of `count_marks`.
+-- Answers to the goals that the check of `count_marks` leaves open.
 use Rattle.std.proofs.Common.{◌+◌, ℕ, take, get_or, refl, ap, ◌∙◌, arith}
 use Rattle.std.specs.Prelude.{count_ones}
 use Rattle.std.proofs.lemmas.List.{length-take}

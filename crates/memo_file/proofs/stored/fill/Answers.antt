@@ -1,4 +1,4 @@
--- Answers to the goals that the check leaves of `fill`.
+-- Answers to the goals that the check of `fill` leaves open.
 use Rattle.std.proofs.Common.{◌≡◌, ◌≤◌, ◌*◌, ℕ, List, length, arith, ap, ◌∙◌}
 use Rattle.std.proofs.lemmas.List.{length-replicate}
 use Rattle.memory_spec.specs.Pages.{zero_page}

@@ -1,4 +1,4 @@
--- Answers to the goals that the check leaves of `fill_eight`.
+-- Answers to the goals that the check of `fill_eight` leaves open.
 use Rattle.memo_file.proofs.Marking.{bit_room, bit_more, bit_skip}
 use Rattle.memo_file.proofs.stored.fill_eight.Goals as goal
 use Rattle.memo_file.proofs.stored.fill_eight.Goals.{then-byte-bit-eq1, else-byte-bit-eq1}

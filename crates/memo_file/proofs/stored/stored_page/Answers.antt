@@ -1,4 +1,4 @@
--- What is left to prove of `stored_page`.
+-- Answers to the goals that the check of `stored_page` leaves open.
 use Rattle.std.proofs.Common.{refl}
 use Rattle.std.proofs.lemmas.Result.{err_from_is_err_and}
 use Rattle.memo_spec.specs.Reading.{stored_page_at}

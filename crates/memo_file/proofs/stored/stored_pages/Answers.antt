@@ -1,4 +1,4 @@
--- Answers to the goals that the check leaves of `stored_pages`.
+-- Answers to the goals that the check of `stored_pages` leaves open.
 use Rattle.std.proofs.Common.{◌≡◌, arith, suc, ◌+◌}
 use Rattle.std.proofs.lemmas.Result.{err_from_is_err_and}
 use Rattle.memo_spec.specs.Reading.{stored_page_at}

@@ -1,4 +1,4 @@
--- The digest stands behind the rest.
+-- The digest is after the rest.
 use Rattle.std.proofs.Common.{◌≡◌, ◌++◌, ℕ, List, ap, ◌∙◌}
 use Rattle.sha2.specs.Sha256.{sha256}
 use Rattle.memo_spec.specs.Encoding.{body, memo_in, memo}

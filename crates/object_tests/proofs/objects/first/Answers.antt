@@ -1,4 +1,4 @@
--- Nobody waits at the start.
+-- No thread waits at the start.
 use Rattle.std.proofs.Common.{◌≡◌, subst, sym}
 use Rattle.guest_call.specs.Objects.{Objects, waits_at}
 use Rattle.guest_call.proofs.Kept.{opening_waits}

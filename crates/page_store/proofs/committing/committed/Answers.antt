@@ -1,4 +1,4 @@
--- Answers to the goals that the check leaves of `committed`.
+-- Answers to the goals that the check of `committed` leaves open.
 use Rattle.std.proofs.Common.{length, ◌≤◌, ap, sym, ◌∙◌, arith}
 use Rattle.std.proofs.lemmas.List.{drop_all}
 use Rattle.thunk_spec.specs.Delta.{masked}

@@ -1,4 +1,4 @@
--- The table so far, with the other pages still written, is the table after all.
+-- The table so far, after writing the remaining pages, is the table after all.
 use Rattle.std.proofs.Common.{◌≡◌, length, drop}
 use Rattle.thunk_spec.specs.Delta.{masked}
 use Rattle.page_store.proofs.committing.committed.Given as goal

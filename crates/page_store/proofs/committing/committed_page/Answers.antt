@@ -1,4 +1,4 @@
--- Answers to the goals that the check leaves of `committed_page`.
+-- Answers to the goals that the check of `committed_page` leaves open.
 use Rattle.std.proofs.Common.{◌≡◌, ℕ, ◌+◌, ◌<◌, suc, List, ◌∷◌, length, get_or, drop, sym, ap, ◌∙◌, arith}
 use Rattle.std.proofs.Math.Seq.{drop-cons}
 use Rattle.memory_spec.specs.Pages.{page_of}

@@ -1,4 +1,4 @@
--- Those so far are those of the list.
+-- The elements so far are those of the list.
 use Rattle.std.proofs.Common.{◌≡◌, map, take}
 use Rattle.std.specs.Arc.{arc_value}
 use Rattle.page_store.proofs.group.shared.Given as goal

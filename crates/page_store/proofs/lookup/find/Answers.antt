@@ -1,4 +1,4 @@
--- Answers to the goals that the check leaves of `find`.
+-- Answers to the goals that the check of `find` leaves open.
 use Rattle.std.proofs.Common.{◌<◌, length, arith, sym, ◌+◌, ◌-◌, ◌/◌}
 use Rattle.memory_spec.specs.Pages.{slot_of}
 use Rattle.page_store.proofs.Slots.{slot_of-length, slot_of-at, slot_of-later, slot_of-earlier}

@@ -1,4 +1,4 @@
--- If any page has the address, its slot is one of those that are left.
+-- If any page has the address, its slot is one of the remaining ones.
 use Rattle.std.proofs.Common.{◌<◌, ◌≤◌, ◌-◌, length}
 use Rattle.memory_spec.specs.Pages.{slot_of}
 use Rattle.page_store.proofs.lookup.find.Given as goal

@@ -1,4 +1,4 @@
--- Answers to the goals that the check leaves of `differing`.
+-- Answers to the goals that the check of `differing` leaves open.
 use Rattle.std.proofs.Common.{◌+◌, cond, nat_eq, get_or, ap, ◌∙◌}
 use Rattle.std.specs.Simd.Lanes.{chunk}
 use Rattle.std.proofs.lemmas.Simd.{length-chunk, get_or-chunk}

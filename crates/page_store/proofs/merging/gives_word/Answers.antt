@@ -1,4 +1,4 @@
--- Answers to the goals that the check leaves of `gives_word`.
+-- Answers to the goals that the check of `gives_word` leaves open.
 use Rattle.std.proofs.Common.{refl, nat_eq, bit_and, w64}
 use Rattle.std.specs.Int.{bit_not}
 use Rattle.page_store.proofs.Giving.{given_all, given_marked}

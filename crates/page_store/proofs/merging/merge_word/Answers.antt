@@ -1,4 +1,4 @@
--- Answers to the goals that the check leaves of `merge_word`.
+-- Answers to the goals that the check of `merge_word` leaves open.
 use Rattle.std.proofs.Common.{◌≡◌, arith, ◌∙◌, ◌+◌, ap, cond, ◌==◌, get_or, length, sym, true}
 use Rattle.std.specs.Int.{bit_at}
 use Rattle.std.specs.Simd.Lanes.{chunk}

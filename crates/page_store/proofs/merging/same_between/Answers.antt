@@ -1,4 +1,4 @@
--- Answers to the goals that the check leaves of `same_between`.
+-- Answers to the goals that the check of `same_between` leaves open.
 use Rattle.page_store.proofs.Giving.{compared}
 use Rattle.page_store.proofs.merging.same_between.Goals as goal
 

@@ -1,4 +1,4 @@
--- Answers to the goals that the check leaves of `select_marked`.
+-- Answers to the goals that the check of `select_marked` leaves open.
 use Rattle.std.proofs.Common.{arith, ◌∙◌, get_or}
 use Rattle.std.proofs.lemmas.Simd.{length-sel_l, get_or-sel_l}
 use Rattle.page_store.proofs.Lanes.{length-lanes, lane_chosen, lanes_of}

@@ -1,4 +1,4 @@
--- What holds at the loop of `shared`.
+-- The invariant of the loop of `shared`.
 use Rattle.std.proofs.Common.{◌≡◌, map, take}
 use Rattle.std.specs.Rc.{rc_value}
 use Rattle.plain_machine.proofs.memory.shared.Given as goal

@@ -1,4 +1,4 @@
--- What is left to prove of `find_code`.
+-- Answers to the goals that the check of `find_code` leaves open.
 use Rattle.std.proofs.Common.{ap, sym, ◌∙◌}
 use Rattle.memory_spec.specs.Pages.{allows, execute_right}
 use Rattle.plain_machine.proofs.Fetching.{slot_of-same, permission_at-same}

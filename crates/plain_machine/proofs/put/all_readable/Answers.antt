@@ -1,4 +1,4 @@
--- What is left to prove of `all_readable`.
+-- Answers to the goals that the check of `all_readable` leaves open.
 use Rattle.std.proofs.Common.{◌≡◌, ◌+◌, ◌-◌, ◌&&◌, ℕ, Bool, refl, ap, sym, ◌∙◌, arith}
 use Rattle.std.specs.List.{range_with_len, list_all}
 use Rattle.memory_spec.specs.Pages.{allows, read_right, permission_at}

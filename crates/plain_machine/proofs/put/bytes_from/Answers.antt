@@ -1,4 +1,4 @@
--- What is left to prove of `bytes_from`.
+-- Answers to the goals that the check of `bytes_from` leaves open.
 use Rattle.std.proofs.Common.{◌+◌, ◌++◌, [], ◌∷◌, ap, sym, ◌∙◌, arith}
 use Rattle.std.specs.List.{range_with_len}
 use Rattle.std.proofs.lemmas.List.FromFn.{map-range_with_len_more}

@@ -1,4 +1,4 @@
--- What holds at the loop of `bytes_from`.
+-- The invariant of the loop of `bytes_from`.
 use Rattle.std.proofs.Common.{◌≡◌}
 use Rattle.std.specs.List.{range_with_len}
 use Rattle.thunk_spec.specs.Put.{bytes_at}

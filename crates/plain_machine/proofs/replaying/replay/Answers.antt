@@ -1,4 +1,4 @@
--- What is left to prove of `replay`.
+-- Answers to the goals that the check of `replay` leaves open.
 use Rattle.std.proofs.Common.{◌≡◌, ◌<◌, suc, true, length, take, get_or, refl, ap, sym, ◌∙◌, arith}
 use Rattle.machine_spec.specs.Machine.{Machine}
 use Rattle.machine_spec.specs.Schedule.{scratch_from}

@@ -1,4 +1,4 @@
--- What holds at the loop of `replay`.
+-- The invariant of the loop of `replay`.
 use Rattle.std.proofs.Common.{◌≡◌, ◌+◌, ◌*◌, ◌≤◌, true, take}
 use Rattle.machine_spec.specs.Schedule.{scratch_from, is_permitted_from}
 use Rattle.machine_spec.specs.Setup.{first}

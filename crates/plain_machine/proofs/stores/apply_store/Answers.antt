@@ -1,4 +1,4 @@
--- What is left to prove of `apply_store`.
+-- Answers to the goals that the check of `apply_store` leaves open.
 use Rattle.std.proofs.Common.{◌≡◌, ◌%◌, ◌<◌, ℕ, length, set, ap, sym, ◌∙◌, arith}
 use Rattle.memory_spec.specs.Pages.{slot_of, page_of}
 use Rattle.plain_machine.specs.Stored.{with_number}

@@ -1,4 +1,4 @@
--- What is left to prove of `apply_stores`.
+-- Answers to the goals that the check of `apply_stores` leaves open.
 use Rattle.std.proofs.Common.{◌≡◌, ◌+◌, ◌∷◌, length, get_or, drop, ap, sym, ◌∙◌, arith}
 use Rattle.std.proofs.lemmas.List.{at_drop_more}
 use Rattle.memory_spec.specs.Access.{bytes_stored}

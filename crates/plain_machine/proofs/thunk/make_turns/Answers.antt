@@ -1,4 +1,4 @@
--- What is left to prove of `make_turns`.
+-- Answers to the goals that the check of `make_turns` leaves open.
 use Rattle.std.proofs.Common.{ap, ◌∙◌, arith}
 use Rattle.memory_spec.specs.Workspace.{Workspace}
 use Rattle.plain_machine.proofs.Turning.{turns-next}

@@ -1,4 +1,4 @@
--- What holds at the loop of `make_turns`.
+-- The invariant of the loop of `make_turns`.
 use Rattle.std.proofs.Common.{◌≡◌, ◌+◌, ◌-◌, ◌≤◌}
 use Rattle.plain_machine.specs.Turning.{left_after, counted}
 use Rattle.plain_machine.proofs.thunk.make_turns.Given as goal

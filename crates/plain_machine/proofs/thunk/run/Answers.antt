@@ -1,4 +1,4 @@
--- What is left to prove of `run`.
+-- Answers to the goals that the check of `run` leaves open.
 use Rattle.std.proofs.Common.{List, ap, ◌∙◌}
 use Rattle.std.specs.Arc.{arc_value}
 use Rattle.memory_spec.specs.Pages.{Mapped, Memory}

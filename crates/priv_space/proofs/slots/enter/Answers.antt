@@ -1,4 +1,4 @@
--- Answers to the goals that the check leaves of `enter`.
+-- Answers to the goals that the check of `enter` leaves open.
 use Rattle.std.proofs.Common.{arith}
 use Rattle.priv_space.specs.Changes.{EntersPage}
 use Rattle.priv_space.proofs.Held.{put-touched, change-put}

@@ -1,4 +1,4 @@
--- Answers to the goals that the check leaves of `fetch`.
+-- Answers to the goals that the check of `fetch` leaves open.
 use Rattle.std.proofs.Common.{arith}
 use Rattle.memory_spec.specs.Pages.{page_of}
 use Rattle.priv_space.specs.Changes.{any, TakesNumber}

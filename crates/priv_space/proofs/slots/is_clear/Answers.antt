@@ -1,4 +1,4 @@
--- Answers to the goals that the check leaves of `is_clear`.
+-- Answers to the goals that the check of `is_clear` leaves open.
 use Rattle.std.proofs.Common.{◌≡◌, ◌+◌, get_or, inl, inr, ap, arith}
 use Rattle.std.proofs.lemmas.Bool.{cases_lt}
 use Rattle.std.proofs.lemmas.Nat.{le_or_l, le_or_r}

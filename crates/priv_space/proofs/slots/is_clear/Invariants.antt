@@ -1,4 +1,4 @@
--- No place so far has a bit that all of them don't have.
+-- No place so far has a bit that the union of all lacks.
 use Rattle.std.proofs.Common.{ℕ, ◌+◌, ◌<◌, ◌≤◌, get_or}
 use Rattle.priv_space.proofs.slots.is_clear.Given as goal
 

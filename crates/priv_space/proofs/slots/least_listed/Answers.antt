@@ -1,4 +1,4 @@
--- Answers to the goals that the check leaves of `least_listed`.
+-- Answers to the goals that the check of `least_listed` leaves open.
 use Rattle.std.proofs.Common.{◌≡◌, subst, arith}
 use Rattle.priv_space.specs.Held.{FindsLeast}
 use Rattle.priv_space.proofs.slots.least_listed.Goals as goal

@@ -1,4 +1,4 @@
--- Answers to the goals that the check leaves of `make_place`.
+-- Answers to the goals that the check of `make_place` leaves open.
 use Rattle.std.proofs.Common.{◌≡◌, [], ◌∷◌, ◌++◌, length, ap, ◌∙◌, arith, rules}
 use Rattle.priv_space.specs.Slots.{untouched}
 use Rattle.priv_space.proofs.Held.{all_held-more, is_held-more}

@@ -1,4 +1,4 @@
--- Answers to the goals that the check leaves of `store`.
+-- Answers to the goals that the check of `store` leaves open.
 use Rattle.std.proofs.Common.{arith}
 use Rattle.memory_spec.specs.Pages.{page_of}
 use Rattle.priv_space.specs.Changes.{StoresNumber}

@@ -1,4 +1,4 @@
--- Answers to the goals that the check leaves of `store_again`.
+-- Answers to the goals that the check of `store_again` leaves open.
 use Rattle.std.proofs.Common.{get_or, refl, ap, ◌∙◌}
 use Rattle.priv_space.specs.Changes.{StoresAgain}
 use Rattle.priv_space.proofs.Held.{put-slot, change-put, still-untouched}

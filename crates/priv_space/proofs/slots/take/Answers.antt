@@ -1,4 +1,4 @@
--- Answers to the goals that the check leaves of `take`.
+-- Answers to the goals that the check of `take` leaves open.
 use Rattle.std.proofs.Common.{arith}
 use Rattle.memory_spec.specs.Pages.{page_of, allows, read_right}
 use Rattle.priv_space.specs.Changes.{TakesNumber}

@@ -1,4 +1,4 @@
--- What is left to prove of `follow_pick`.
+-- Answers to the goals that the check of `follow_pick` leaves open.
 use Rattle.std.proofs.Common.{sym, ◌∙◌}
 use Rattle.round_spec.specs.declared.events.Event.TheVariants.{Reuse}
 use Rattle.propagate.proofs.Executing.{costs-nothing, reuse-spares, run-spares}

@@ -1,4 +1,4 @@
--- What is left to prove of `follow_picks`.
+-- Answers to the goals that the check of `follow_picks` leaves open.
 use Rattle.std.proofs.Common.{◌-◌, ◌+◌, arith}
 use Rattle.round_spec.specs.Alone.{after_picks}
 use Rattle.propagate.proofs.Executing.{partway-pick, partway-over}

@@ -1,4 +1,4 @@
--- What is left to prove of `run_alone`.
+-- Answers to the goals that the check of `run_alone` leaves open.
 use Rattle.std.proofs.Common.{option_map, arith}
 use Rattle.std.specs.Arc.{arc_value}
 use Rattle.round_spec.specs.Unedited.{OnlyReuses}

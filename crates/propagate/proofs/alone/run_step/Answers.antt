@@ -1,4 +1,4 @@
--- What is left to prove of `run_step`.
+-- Answers to the goals that the check of `run_step` leaves open.
 use Rattle.std.proofs.Common.{◌≡◌, Result, Ok, Err, OnOk, refl, ap, sym, subst, ◌∙◌, arith}
 use Rattle.std.specs.declared.alloc.AllocError.{AllocError}
 use Rattle.std.specs.Arc.{arc_value}

@@ -1,4 +1,4 @@
--- What is left to prove of `mark_part`.
+-- Answers to the goals that the check of `mark_part` leaves open.
 use Rattle.std.proofs.Common.{sym, ◌∙◌}
 use Rattle.std.proofs.lemmas.Slice.Eq.{bytes_eq-Decides}
 use Rattle.propagate.proofs.Starts.{same-page}

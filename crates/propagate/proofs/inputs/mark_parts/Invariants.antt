@@ -1,4 +1,4 @@
--- What holds at the loop of `mark_parts`.
+-- The invariant of the loop of `mark_parts`.
 use Rattle.std.proofs.Common.{◌≡◌, ◌<◌, ◌+◌, ℕ, false}
 use Rattle.machine_spec.specs.Setup.{input_page}
 use Rattle.propagate.specs.Alike.{is_marked}

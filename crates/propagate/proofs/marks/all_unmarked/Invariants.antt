@@ -1,4 +1,4 @@
--- What holds at the loop of `all_unmarked`.
+-- The invariant of the loop of `all_unmarked`.
 use Rattle.std.proofs.Common.{◌≡◌, drop}
 use Rattle.propagate.specs.Alike.{all_unmarked}
 use Rattle.propagate.proofs.marks.all_unmarked.Given as goal

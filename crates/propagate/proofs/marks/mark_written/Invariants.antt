@@ -1,4 +1,4 @@
--- What holds at the loop of `mark_written`.
+-- The invariant of the loop of `mark_written`.
 use Rattle.std.proofs.Common.{◌≡◌, drop, map}
 use Rattle.thunk_spec.specs.Delta.{PageDelta}
 use Rattle.propagate.specs.Alike.{marked}

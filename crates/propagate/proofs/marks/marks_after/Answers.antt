@@ -1,4 +1,4 @@
--- What is left to prove of `marks_after`.
+-- Answers to the goals that the check of `marks_after` leaves open.
 use Rattle.std.proofs.Common.{◌≡◌, Bool, true, false, cond, List, Option, Some, None, Vec, option_map, refl, ap, sym, ◌∙◌}
 use Rattle.std.specs.Global.{Global}
 use Rattle.history_spec.specs.Facts.{written_slots}

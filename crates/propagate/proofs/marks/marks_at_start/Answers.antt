@@ -1,4 +1,4 @@
--- What is left to prove of `marks_at_start`.
+-- Answers to the goals that the check of `marks_at_start` leaves open.
 use Rattle.std.proofs.Common.{◌≡◌, Option, option_map, ap, sym, subst, ◌∙◌}
 use Rattle.std.specs.Arc.{arc_value}
 use Rattle.machine_spec.specs.Setup.{Setup, IsSetup, first}

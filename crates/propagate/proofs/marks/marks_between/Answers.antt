@@ -1,4 +1,4 @@
--- What is left to prove of `marks_between`.
+-- Answers to the goals that the check of `marks_between` leaves open.
 use Rattle.std.proofs.Common.{◌≡◌, ℕ, List, length, ap, sym, ◌∙◌, arith}
 use Rattle.std.proofs.lemmas.Slice.Eq.{bytes_eq-Decides}
 use Rattle.memory_spec.specs.Pages.{Memory}

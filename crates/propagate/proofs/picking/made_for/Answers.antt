@@ -1,4 +1,4 @@
--- What is left to prove of `made_for`: no steps at first.
+-- Answers to the goals that the check of `made_for` leaves open: no steps at first.
 use Rattle.std.proofs.Common.{◌≡◌, ℕ, zero, suc, replicate, slice_index, refl, arith}
 use Rattle.propagate.proofs.picking.made_for.Goals as goal
 

@@ -1,4 +1,4 @@
--- One step more.
+-- One more step.
 use Rattle.std.proofs.Common.{◌≡◌, ◌<◌, ◌+◌, ◌++◌, ◌∷◌, ℕ, List, [], Vec, length, map, take, get_or, ap, sym, ◌∙◌, arith}
 use Rattle.std.specs.Global.{Global}
 use Rattle.std.specs.Arc.{arc_value}
@@ -9,7 +9,7 @@ use Rattle.history_spec.specs.Facts.{read_slots}
 use Rattle.depend_graph.specs.Reaching.{slots_of_each}
 use Rattle.propagate.proofs.reaching.all_read_slots.Goals as goal
 
--- what one step more reads stands behind
+-- the slots that one more step reads come last
 read-more :
     (rs : List Record) (reads : List (Vec ℕ Global)) (i : ℕ) (r : Record) (slots : Vec ℕ Global)
     → i < length rs → get_or rs i r ≡ r → slots.items ≡ read_slots r

@@ -1,4 +1,4 @@
--- What is left to prove of `first_look`.
+-- Answers to the goals that the check of `first_look` leaves open.
 use Rattle.propagate.proofs.Due.{few-facts, have-threads}
 use Rattle.propagate.proofs.round.first_look.Goals as goal
 

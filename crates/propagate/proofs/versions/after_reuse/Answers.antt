@@ -1,4 +1,4 @@
--- What is left to prove of `after_reuse`.
+-- Answers to the goals that the check of `after_reuse` leaves open.
 use Rattle.std.proofs.Common.{Some, ℕ, sym, subst}
 use Rattle.propagate.specs.declared.versions.Versions.{Versions}
 use Rattle.propagate.specs.Versions.{AreReused, AreGiven, MayBeMadeAgain, unboxed}

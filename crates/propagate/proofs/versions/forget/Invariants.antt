@@ -1,4 +1,4 @@
--- What holds at the loop of `forget`.
+-- The invariant of the loop of `forget`.
 use Rattle.std.proofs.Common.{◌≡◌, drop, map, None}
 use Rattle.thunk_spec.specs.Delta.{PageDelta}
 use Rattle.propagate.specs.Versions.{with_each}

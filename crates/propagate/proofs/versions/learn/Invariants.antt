@@ -1,4 +1,4 @@
--- What holds at the loop of `learn`.
+-- The invariant of the loop of `learn`.
 use Rattle.std.proofs.Common.{◌≡◌, drop}
 use Rattle.propagate.specs.Versions.{learned}
 use Rattle.propagate.proofs.versions.learn.Given as goal

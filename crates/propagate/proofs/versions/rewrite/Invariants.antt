@@ -1,4 +1,4 @@
--- What holds at the loop of `rewrite`.
+-- The invariant of the loop of `rewrite`.
 use Rattle.std.proofs.Common.{◌≡◌, drop}
 use Rattle.propagate.specs.Versions.{rewritten}
 use Rattle.propagate.proofs.versions.rewrite.Given as goal

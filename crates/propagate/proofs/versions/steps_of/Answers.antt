@@ -1,4 +1,4 @@
--- What is left to prove of `steps_of`.
+-- Answers to the goals that the check of `steps_of` leaves open.
 use Rattle.std.proofs.Common.{◌≡◌, ◌+◌, ℕ, List, Some, length, replicate, ap, sym, subst, ◌∙◌, arith}
 use Rattle.std.proofs.lemmas.List.{length_push}
 use Rattle.std.specs.Arc.{arc_value}

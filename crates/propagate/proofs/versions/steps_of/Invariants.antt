@@ -1,4 +1,4 @@
--- What holds at the loop of `steps_of`.
+-- The invariant of the loop of `steps_of`.
 use Rattle.std.proofs.Common.{◌≡◌, length}
 use Rattle.propagate.specs.Versions.{AreStepsOf}
 use Rattle.propagate.proofs.Passing.{ArePassed}

@@ -1,4 +1,4 @@
--- What holds at the loop of `views_of`.
+-- The invariant of the loop of `views_of`.
 use Rattle.std.proofs.Common.{◌≡◌, vec_len}
 use Rattle.std.specs.Arc.{arc_value}
 use Rattle.machine_calls.specs.Views.{AreViewsOf}

@@ -1,4 +1,4 @@
--- What is left to prove of `bytes_of`.
+-- Answers to the goals that the check of `bytes_of` leaves open.
 use Rattle.std.proofs.Common.{◌≡◌, ℕ, List, ◌+◌, ◌-◌, ◌++◌, refl, ap, sym, ◌∙◌, arith}
 use Rattle.std.specs.List.{range_with_len}
 use Rattle.thunk_spec.specs.Put.{bytes_at}

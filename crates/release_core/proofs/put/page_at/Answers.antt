@@ -1,4 +1,4 @@
--- What is left to prove of `page_at`.
+-- Answers to the goals that the check of `page_at` leaves open.
 use Rattle.std.proofs.Common.{◌%◌, get_or, ap, ◌∙◌}
 use Rattle.thunk_spec.specs.Delta.{masked}
 use Rattle.release_core.proofs.Applying.{masked_count}

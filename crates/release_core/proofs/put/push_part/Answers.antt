@@ -1,4 +1,4 @@
--- What is left to prove of `push_part`.
+-- Answers to the goals that the check of `push_part` leaves open.
 use Rattle.std.proofs.Common.{◌≡◌, ℕ, List, ◌+◌, ◌-◌, ◌%◌, ◌++◌, take, drop, refl, ap, ◌∙◌, arith}
 use Rattle.std.specs.Simd.Lanes.{chunk}
 use Rattle.std.specs.List.{range_with_len}

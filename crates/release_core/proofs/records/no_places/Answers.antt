@@ -1,4 +1,4 @@
--- What is left to prove of `no_places`.
+-- Answers to the goals that the check of `no_places` leaves open.
 use Rattle.std.proofs.Common.{◌<◌, subst}
 use Rattle.release_core.proofs.records.no_places.Goals as goal
 

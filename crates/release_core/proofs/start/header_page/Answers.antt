@@ -1,4 +1,4 @@
--- What is left to prove of `header_page`.
+-- Answers to the goals that the check of `header_page` leaves open.
 use Rattle.std.proofs.Common.{refl}
 use Rattle.machine_spec.specs.Setup.{header_page}
 use Rattle.release_core.proofs.start.header_page.Goals as goal

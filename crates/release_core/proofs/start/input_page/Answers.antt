@@ -1,4 +1,4 @@
--- What is left to prove of `input_page`.
+-- Answers to the goals that the check of `input_page` leaves open.
 use Rattle.std.proofs.Common.{◌-◌, refl}
 use Rattle.release_core.proofs.Zeros.{page_of_part}
 use Rattle.release_core.proofs.start.input_page.Goals as goal

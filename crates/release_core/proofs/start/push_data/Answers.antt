@@ -1,4 +1,4 @@
--- What is left to prove of `push_data`.
+-- Answers to the goals that the check of `push_data` leaves open.
 use Rattle.std.proofs.Common.{◌≡◌, ◌+◌, ◌-◌, refl, ◌∙◌, arith}
 use Rattle.release_core.proofs.DataPages.{data_pages-done, data_pages-next}
 use Rattle.release_core.proofs.start.push_data.Goals as goal

@@ -1,4 +1,4 @@
--- What holds at the loop of `push_data`.
+-- The invariant of the loop of `push_data`.
 use Rattle.std.proofs.Common.{◌≡◌, ◌+◌, ◌-◌, ◌++◌}
 use Rattle.machine_spec.specs.Setup.{data_pages}
 use Rattle.release_core.proofs.start.push_data.Given as goal

@@ -1,4 +1,4 @@
--- What is left to prove of `push_input`.
+-- Answers to the goals that the check of `push_input` leaves open.
 use Rattle.std.proofs.Common.{◌≡◌, ◌+◌, ◌++◌, [], ◌∷◌, ℕ, List, map, arith, append_assoc}
 use Rattle.std.specs.List.{range_with_len}
 use Rattle.std.proofs.lemmas.List.FromFn.{map-range_with_len_more}

@@ -1,4 +1,4 @@
--- What holds at the loop of `push_input`.
+-- The invariant of the loop of `push_input`.
 use Rattle.std.proofs.Common.{◌≡◌, ◌++◌, map}
 use Rattle.std.specs.List.{range_with_len}
 use Rattle.machine_spec.specs.Setup.{input_page}

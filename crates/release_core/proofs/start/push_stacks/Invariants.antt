@@ -1,4 +1,4 @@
--- What holds at the loop of `push_stacks`.
+-- The invariant of the loop of `push_stacks`.
 use Rattle.std.proofs.Common.{◌≡◌, ◌++◌, replicate}
 use Rattle.std.specs.Arc.{arc_value}
 use Rattle.memory_spec.specs.Pages.{zero_page}

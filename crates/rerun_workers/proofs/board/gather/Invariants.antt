@@ -1,11 +1,11 @@
--- What holds at the loop of `gather`.
+-- The invariant of the loop of `gather`.
 use Rattle.std.specs.Prelude.{◌≡◌, ◌+◌, ◌≤◌, ◌++◌, map, sum, sum_by, vec_len, vec_capacity, Some}
 use Rattle.history_spec.specs.History.{History}
 use Rattle.round_spec.specs.Unedited.{IsUnedited}
 use Rattle.rerun_workers.specs.Making.{ComparesNone}
 use Rattle.rerun_workers.proofs.board.gather.Given as goal
 
--- the passes that are gone are merged, and their steps listed, and there is room for the others; without an edit they
+-- the passes so far are merged, and their steps listed, and there is room for the others; without an edit they
 -- made no turn and compared no page
 abbrev pub invariant-loop-passes : goal.invariant-loop-passes
 invariant-loop-passes g l =

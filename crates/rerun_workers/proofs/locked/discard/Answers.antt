@@ -1,4 +1,4 @@
--- What is left to prove of `discard`.
+-- Answers to the goals that the check of `discard` leaves open.
 use Rattle.std.proofs.Common.{sym, ◌∙◌}
 use Rattle.round_spec.proofs.Conditions.{happens-give_back_not}
 use Rattle.rerun_workers.proofs.locked.discard.Goals as goal

@@ -1,4 +1,4 @@
--- What is left to prove of `run_by_first`.
+-- Answers to the goals that the check of `run_by_first` leaves open.
 use Rattle.std.proofs.Common.{option_map, rules, ◌≡◌, ◌-◌, ◌∷◌, length}
 use Rattle.std.specs.Prelude.{replicate}
 use Rattle.std.specs.Arc.{arc_value}

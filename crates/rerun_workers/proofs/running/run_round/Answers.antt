@@ -1,4 +1,4 @@
--- What is left to prove of `run_round`.
+-- Answers to the goals that the check of `run_round` leaves open.
 use Rattle.std.proofs.Common.{option_map, is_some, ap, sym, ◌∙◌, arith}
 use Rattle.std.specs.Arc.{arc_value}
 use Rattle.rerun_workers.proofs.Made.{closed-opening, by-several, cost-several}

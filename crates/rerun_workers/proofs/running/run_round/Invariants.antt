@@ -1,4 +1,4 @@
--- The ledger and the names of the board of `run_round`, which nobody watches.
+-- The ledger and the names of the board of `run_round`, without a watcher.
 use Rattle.shared_words.specs.Views.{no_table}
 use Rattle.rerun_workers.proofs.running.run_round.Given as goal
 

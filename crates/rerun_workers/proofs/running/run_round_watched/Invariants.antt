@@ -1,4 +1,4 @@
--- The ledger and the names of the board of `run_round_watched`, which one watches.
+-- The ledger and the names of the board of `run_round_watched`, with one watcher.
 use Rattle.rerun_workers.proofs.running.run_round_watched.Given as goal
 
 abbrev pub ghosts-run_watched-J-Ledger : goal.ghosts-run_watched-J-Ledger

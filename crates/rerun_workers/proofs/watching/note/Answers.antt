@@ -1,4 +1,4 @@
--- What is left to prove of `note`.
+-- Answers to the goals that the check of `note` leaves open.
 use Rattle.std.proofs.Common.{◌≤◌, ◌-◌, ℕ, None, length, ◌∙◌, sym, ap, arith}
 use Rattle.std.specs.Prelude.{slice_get}
 use Rattle.std.specs.List.{last_or}

@@ -1,4 +1,4 @@
--- What holds at the loop of `watch_round`.
+-- The invariant of the loop of `watch_round`.
 use Rattle.std.specs.Prelude.{◌≡◌, ◌≤◌, All, vec_len, vec_capacity}
 use Rattle.std.specs.List.Sorted.{IsStrictlyIncreasing}
 use Rattle.rerun_workers.proofs.watching.watch_round.Given as goal

@@ -1,4 +1,4 @@
--- What is left to prove of `run_job`.
+-- Answers to the goals that the check of `run_job` leaves open.
 use Rattle.std.proofs.Common.{arith}
 use Rattle.rerun_workers.proofs.working.run_job.Goals as goal
 

@@ -1,4 +1,4 @@
--- What is left to prove of `Driven::happen`.
+-- Answers to the goals that the check of `Driven::happen` leaves open.
 use Rattle.round_spec.specs.declared.events.Event.TheVariants.{Take, Reuse, GiveBack, Stop}
 use Rattle.propagate.proofs.Executing.{costs-nothing, ok-costs}
 use Rattle.round_driver.proofs.Driven.happen.Goals as goal

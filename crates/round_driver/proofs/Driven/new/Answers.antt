@@ -1,4 +1,4 @@
--- What is left to prove of `Driven::new`.
+-- Answers to the goals that the check of `Driven::new` leaves open.
 use Rattle.std.proofs.Common.{ap}
 use Rattle.round_spec.specs.Rounds.{RoundState}
 use Rattle.round_driver.proofs.Jobs.{jobs-none}

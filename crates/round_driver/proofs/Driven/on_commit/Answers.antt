@@ -1,4 +1,4 @@
--- What is left to prove of `Driven::on_commit`.
+-- Answers to the goals that the check of `Driven::on_commit` leaves open.
 use Rattle.std.proofs.Common.{◌≡◌, true, Result, OnOk, sym, ◌∙◌, subst, arith}
 use Rattle.std.specs.declared.alloc.AllocError.{AllocError}
 use Rattle.round_spec.specs.declared.events.Event.TheVariants.{GiveBack}

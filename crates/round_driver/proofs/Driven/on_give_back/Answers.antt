@@ -1,4 +1,4 @@
--- What is left to prove of `Driven::on_give_back`.
+-- Answers to the goals that the check of `Driven::on_give_back` leaves open.
 use Rattle.std.proofs.Common.{sym, ◌∙◌}
 use Rattle.round_spec.specs.declared.events.Event.TheVariants.{GiveBack}
 use Rattle.round_spec.proofs.Conditions.{happens-give_back_not}

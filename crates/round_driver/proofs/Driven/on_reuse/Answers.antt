@@ -1,4 +1,4 @@
--- What is left to prove of `Driven::on_reuse`.
+-- Answers to the goals that the check of `Driven::on_reuse` leaves open.
 use Rattle.std.proofs.Common.{sym, ◌∙◌}
 use Rattle.round_spec.proofs.Conditions.{happens-reuse_not}
 use Rattle.round_driver.proofs.Jobs.{jobs-reuse}

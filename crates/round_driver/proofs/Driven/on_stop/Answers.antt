@@ -1,4 +1,4 @@
--- What is left to prove of `Driven::on_stop`.
+-- Answers to the goals that the check of `Driven::on_stop` leaves open.
 use Rattle.round_spec.specs.declared.events.Event.TheVariants.{Stop}
 use Rattle.round_driver.proofs.Jobs.{jobs-stay}
 use Rattle.round_driver.proofs.Driven.on_stop.Goals as goal

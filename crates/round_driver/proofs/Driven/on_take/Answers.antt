@@ -1,4 +1,4 @@
--- What is left to prove of `Driven::on_take`.
+-- Answers to the goals that the check of `Driven::on_take` leaves open.
 use Rattle.std.proofs.Common.{Some, set, sym, subst, ◌∙◌}
 use Rattle.round_spec.proofs.Conditions.{happens-take_not}
 use Rattle.round_driver.specs.Jobs.{HaveJobs}

@@ -1,4 +1,4 @@
--- What is left to prove of `digest_of`.
+-- Answers to the goals that the check of `digest_of` leaves open.
 use Rattle.std.proofs.Common.{◌≡◌, ℕ, ◌+◌, ◌<◌, List, [], ◌++◌, length, get_or, take, ap, arith}
 use Rattle.std.proofs.lemmas.List.{take_more, append-nil}
 use Rattle.std.proofs.lemmas.List.Folds.{concat-append}
@@ -6,7 +6,7 @@ use Rattle.std.specs.List.{concat}
 use Rattle.memory_spec.specs.Pages.{page_of}
 use Rattle.round_report.proofs.digest.digest_of.Goals as goal
 
--- one page more
+-- one more page
 concat_next :
     (pages : List (List ℕ)) (slot : ℕ) → slot < length pages
     → concat (take (slot + 1) pages) ≡ concat (take slot pages) ++ page_of pages slot

@@ -1,4 +1,4 @@
--- The name and the entries so far stand behind what was there.
+-- The name and the entries so far come after what was there.
 use Rattle.std.proofs.Common.{◌≡◌, ◌++◌, take, flat_map}
 use Rattle.std.specs.Prelude.{codes}
 use Rattle.report_spec.specs.declared.Entry.{Entry}

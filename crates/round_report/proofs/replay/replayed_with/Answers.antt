@@ -1,4 +1,4 @@
--- What is left to prove of `replayed_with`.
+-- Answers to the goals that the check of `replayed_with` leaves open.
 use Rattle.std.proofs.Common.{◌≡◌, ℕ, List, [], ◌∷◌, ◌++◌, length, codes, decimal, sym, ap, ◌∙◌, append_assoc, refl}
 use Rattle.std.specs.List.{concat}
 use Rattle.report_spec.specs.Text.{newline, line}
@@ -7,7 +7,7 @@ use Rattle.round_report.specs.Parts.{run_part, outcome_part}
 use Rattle.round_report.specs.Replay.{replay_lines, replay_text}
 use Rattle.round_report.proofs.replay.replayed_with.Goals as goal
 
--- six lines and what stands behind them, cut into three
+-- six lines and what comes after them, cut into three
 cut :
     (a b c d e f output end : List ℕ)
     → concat (a ∷ b ∷ c ∷ d ∷ e ∷ f ∷ []) ++ output ++ end ≡ a ++ (b ++ c ++ d) ++ (e ++ f ++ output ++ end)
@@ -32,7 +32,7 @@ in_parts t =
     t.output
     newline
 
--- three parts, appended in turn
+-- three parts, appended one after the other
 appended :
     (a b c : List ℕ)
     → {start first second last : List ℕ}

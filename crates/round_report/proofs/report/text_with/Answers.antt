@@ -1,4 +1,4 @@
--- What is left to prove of `text_with`.
+-- Answers to the goals that the check of `text_with` leaves open.
 use Rattle.std.proofs.Common.{◌≡◌, ℕ, List, [], ◌∷◌, ◌++◌, length, codes, decimal, sym, ap, ◌∙◌, append_assoc, refl}
 use Rattle.std.specs.List.{concat}
 use Rattle.std.proofs.lemmas.List.Folds.{concat-append}
@@ -7,7 +7,7 @@ use Rattle.report_spec.specs.Report.{ReportData, ending_text, entry_text, reused
 use Rattle.round_report.specs.Parts.{steps_part, work_part, outcome_part}
 use Rattle.round_report.proofs.report.text_with.Goals as goal
 
--- ten lines, some more at two places in their midst, and what stands behind them, cut into four
+-- ten lines, more lines at two places between them, and what comes after, cut into four
 cut :
     (a b c d e : List ℕ) (more : List (List ℕ)) (f g : List ℕ) (others : List (List ℕ)) (h i j output end : List ℕ)
     → concat (a ∷ b ∷ c ∷ d ∷ e ∷ more ++ f ∷ g ∷ others ++ h ∷ i ∷ j ∷ []) ++ output ++ end
@@ -49,7 +49,7 @@ report_text_is :
     → report_text n t ≡ line (codes "round") (decimal n) ++ steps_part t ++ work_part t ++ outcome_part t
 report_text_is n t = opened n t ∙ in_parts n t
 
--- four parts, appended in turn
+-- four parts, appended one after the other
 appended :
     (a b c d : List ℕ)
     → {start first second third last : List ℕ}

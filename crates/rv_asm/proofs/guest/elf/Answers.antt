@@ -1,4 +1,4 @@
--- What is left to prove of `elf`.
+-- Answers to the goals that the check of `elf` leaves open.
 use Rattle.std.proofs.Common.{◌+◌, length, sym, subst, arith}
 use Rattle.rv_asm.specs.Items.{items_bytes}
 use Rattle.rv_asm.specs.File.{guest_file}

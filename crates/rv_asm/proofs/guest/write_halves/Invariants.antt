@@ -1,4 +1,4 @@
--- What holds at the loop of `write_halves`.
+-- The invariant of the loop of `write_halves`.
 use Rattle.std.proofs.Common.{◌≡◌, ◌++◌, take, flat_map}
 use Rattle.byteorder.specs.Endian.{little_bytes}
 use Rattle.rv_asm.proofs.guest.write_halves.Given as goal

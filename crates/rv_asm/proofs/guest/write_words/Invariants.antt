@@ -1,4 +1,4 @@
--- What holds at the loop of `write_words`.
+-- The invariant of the loop of `write_words`.
 use Rattle.std.proofs.Common.{◌≡◌, ◌++◌, take, flat_map}
 use Rattle.byteorder.specs.Endian.{little_bytes}
 use Rattle.rv_asm.proofs.guest.write_words.Given as goal

@@ -1,4 +1,4 @@
--- What holds at the loop of `written`.
+-- The invariant of the loop of `written`.
 use Rattle.std.proofs.Common.{◌≡◌, take, flat_map}
 use Rattle.rv_asm.specs.Items.{item_bytes}
 use Rattle.rv_asm.proofs.item.written.Given as goal

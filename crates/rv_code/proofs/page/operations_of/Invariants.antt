@@ -1,4 +1,4 @@
--- Each word that was read has its operation, and the operation behind the last stays.
+-- Each word that was read has its operation, and the operation after the last stays.
 use Rattle.std.proofs.Common.{◌≡◌, ℕ, ◌<◌, ◌*◌, ◌+◌, length, slice_index_or}
 use Rattle.memory_spec.specs.Access.{number_in}
 use Rattle.memory_spec.specs.declared.Size.TheVariants.{Four}

@@ -1,4 +1,4 @@
--- A value for x0 goes nowhere.
+-- A value for x0 is dropped.
 use Rattle.rv_code.proofs.Standing.{nothing_stands}
 use Rattle.rv_code.proofs.reading.constant.Goals as goal
 

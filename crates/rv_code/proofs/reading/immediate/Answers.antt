@@ -1,4 +1,4 @@
--- A result for x0 goes nowhere; a sum with x0 is the immediate.
+-- A result for x0 is dropped; a sum with x0 is the immediate.
 use Rattle.std.proofs.Common.{◌≡◌, refl, arith, rules}
 use Rattle.isa_spec.specs.declared.ImmediateOperation.TheVariants as immediate_
 use Rattle.rv_code.proofs.Standing.{nothing_stands, stands_for_its_own, sum_with_x0}

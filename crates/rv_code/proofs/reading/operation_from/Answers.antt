@@ -1,4 +1,4 @@
--- AUIPC is read at its own address, and what does the same at each address at this one.
+-- AUIPC is read at its own address, and an operation that does the same at each address does so at this one.
 use Rattle.std.proofs.Common.{refl}
 use Rattle.rv_code.proofs.reading.operation_from.Goals as goal
 

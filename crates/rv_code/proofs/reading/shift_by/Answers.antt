@@ -1,4 +1,4 @@
--- A result for x0 goes nowhere.
+-- A result for x0 is dropped.
 use Rattle.std.proofs.Common.{refl}
 use Rattle.rv_code.proofs.Standing.{nothing_stands}
 use Rattle.rv_code.proofs.reading.shift_by.Goals as goal

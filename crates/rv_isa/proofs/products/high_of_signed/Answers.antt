@@ -6,7 +6,7 @@ use Rattle.rv_isa.proofs.products.high_of_signed.Goals as goal
 half : (a : ℕ) → a < 2 ^ 32 → unsigned_abs (signed a) ≤ 2 ^ 31
 half a word = omega (arith, ints)
 
--- the product fits 64 bits, so the casts give back what they took
+-- the product fits 64 bits, so the casts keep their values
 pub returns : goal.returns
 returns c =
     let first = c.args.a in

@@ -1,4 +1,4 @@
--- What is left to prove of `operate_immediate`.
+-- Answers to the goals that the check of `operate_immediate` leaves open.
 use Rattle.std.proofs.Common.{refl}
 use Rattle.isa_spec.specs.declared.Instr.TheVariants as instr
 use Rattle.rv_step.specs.declared.placed.Flow.TheVariants as flow

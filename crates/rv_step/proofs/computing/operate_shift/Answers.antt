@@ -1,4 +1,4 @@
--- What is left to prove of `operate_shift`.
+-- Answers to the goals that the check of `operate_shift` leaves open.
 use Rattle.std.proofs.Common.{refl}
 use Rattle.isa_spec.specs.declared.Instr.TheVariants as instr
 use Rattle.isa_spec.specs.Registers.{register}

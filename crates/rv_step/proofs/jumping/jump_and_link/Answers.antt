@@ -1,4 +1,4 @@
--- What is left to prove of `jump_and_link`.
+-- Answers to the goals that the check of `jump_and_link` leaves open.
 use Rattle.std.proofs.Common.{◌<◌, refl}
 use Rattle.isa_spec.specs.declared.Instr.TheVariants as instr
 use Rattle.rv_code.specs.Meaning.{offset_to}

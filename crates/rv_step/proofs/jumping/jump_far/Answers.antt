@@ -1,4 +1,4 @@
--- What is left to prove of `jump_far`.
+-- Answers to the goals that the check of `jump_far` leaves open.
 use Rattle.std.proofs.Common.{◌%◌, refl, eq-eqb, arith}
 use Rattle.isa_spec.specs.declared.Instr.TheVariants as instr
 use Rattle.isa_spec.specs.Words.{difference_of}

@@ -1,4 +1,4 @@
--- What is left to prove of `jump_to_register`.
+-- Answers to the goals that the check of `jump_to_register` leaves open.
 use Rattle.std.proofs.Common.{◌/◌, ◌%◌, refl, eq-eqb, arith}
 use Rattle.isa_spec.specs.declared.Instr.TheVariants as instr
 use Rattle.rv_step.proofs.Words.{inside-leads, outside-leads, linked-pc, word_at-inside}

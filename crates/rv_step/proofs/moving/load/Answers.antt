@@ -1,4 +1,4 @@
--- What is left to prove of `load`.
+-- Answers to the goals that the check of `load` leaves open.
 use Rattle.std.proofs.Common.{◌+◌, ◌%◌, refl, sym}
 use Rattle.rv_step.proofs.Pages.{taking-runs_on, load-executes}
 use Rattle.rv_step.proofs.moving.load.Goals as goal

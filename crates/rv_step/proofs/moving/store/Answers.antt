@@ -1,4 +1,4 @@
--- What is left to prove of `store`.
+-- Answers to the goals that the check of `store` leaves open.
 use Rattle.std.proofs.Common.{◌+◌, ◌%◌, refl, sym, eqb-true}
 use Rattle.rv_step.proofs.Pages.{storing-runs_on, store-executes}
 use Rattle.memory_spec.specs.Access.{byte_count}

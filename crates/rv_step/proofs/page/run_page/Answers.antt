@@ -1,4 +1,4 @@
--- What is left to prove of `run_page`.
+-- Answers to the goals that the check of `run_page` leaves open.
 use Rattle.std.proofs.Common.{◌≡◌, ◌+◌, ◌-◌, ◌<◌, refl, arith}
 use Rattle.isa_spec.specs.Registers.{with_pc}
 use Rattle.rv_step.specs.Paging.{at_word, instr_placed}

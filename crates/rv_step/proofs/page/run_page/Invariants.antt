@@ -1,4 +1,4 @@
--- What holds at the loop of `run_page`.
+-- The invariant of the loop of `run_page`.
 use Rattle.std.proofs.Common.{◌≡◌, ◌+◌, ◌-◌, ◌≤◌}
 use Rattle.isa_spec.specs.Registers.{register}
 use Rattle.page_store.specs.Entering.{RunsFrom}

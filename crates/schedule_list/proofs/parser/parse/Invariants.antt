@@ -1,4 +1,4 @@
--- What holds at the loop of `parse`.
+-- The invariant of the loop of `parse`.
 use Rattle.std.proofs.Common.{length}
 use Rattle.schedule_list.specs.Schedule.{tokens}
 use Rattle.schedule_list.proofs.Reading.{HasRead}

@@ -1,4 +1,4 @@
--- What is left to prove of `thread_of`.
+-- Answers to the goals that the check of `thread_of` leaves open.
 use Rattle.std.proofs.Common.{sym, ◌∙◌, arith}
 use Rattle.schedule_list.proofs.Encoding.{one_number, no_thread}
 use Rattle.schedule_list.proofs.token.thread_of.Goals as goal

@@ -1,4 +1,4 @@
--- What the call of the row gave and left is what the row does at the object of this number.
+-- The effect and the object after the call of the row are those of the row at the object of this number.
 use Rattle.std.proofs.Common.{refl, slice_index_or}
 use Rattle.std.specs.Fn.{FnOnceReturnsAtMut}
 use Rattle.sync_objects.proofs.Rows.{row_at-done}

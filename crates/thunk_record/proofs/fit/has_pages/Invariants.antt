@@ -1,10 +1,10 @@
--- What holds at the loops of `has_pages`.
+-- The invariants of the loops of `has_pages`.
 use Rattle.std.proofs.Common.{◌≡◌, ◌+◌, drop}
 use Rattle.thunk_spec.specs.Reads.{has}
 use Rattle.thunk_record.specs.Comparing.{compared_in}
 use Rattle.thunk_record.proofs.fit.has_pages.Given as goal
 
--- what is found of the pages that are left, and how many of them are compared
+-- what is found of the remaining pages, and how many of them are compared
 abbrev pub invariant-loop-read : goal.invariant-loop-read
 invariant-loop-read l = record {
   has : has l.table (drop l.read-index l.reads) ≡ has l.table l.reads;

@@ -1,4 +1,4 @@
--- What is left to prove of `enter_page`.
+-- Answers to the goals that the check of `enter_page` leaves open.
 use Rattle.std.proofs.Common.{arith}
 use Rattle.thunk_run.proofs.Entering.{entered-left, entered-runs}
 use Rattle.thunk_run.proofs.pages.enter_page.Goals as goal

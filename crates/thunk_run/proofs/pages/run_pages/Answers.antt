@@ -1,4 +1,4 @@
--- What is left to prove of `run_pages`.
+-- Answers to the goals that the check of `run_pages` leaves open.
 use Rattle.std.proofs.Common.{◌+◌, ◌-◌, refl, ap, ◌∙◌, arith}
 use Rattle.thunk_run.specs.TurnsOutcome.{counted}
 use Rattle.thunk_run.proofs.Entering.{follow-left, follow-view}

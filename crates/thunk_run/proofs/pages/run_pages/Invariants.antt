@@ -1,4 +1,4 @@
--- What holds at the loop of `run_pages`.
+-- The invariant of the loop of `run_pages`.
 use Rattle.std.proofs.Common.{◌≡◌, ℕ, ◌+◌, ◌-◌, ◌≤◌}
 use Rattle.thunk_run.specs.TurnsOutcome.{left_after, counted}
 use Rattle.thunk_run.specs.Seeing.{AreSeen}

@@ -1,4 +1,4 @@
--- What is left to prove of `all_readable`.
+-- Answers to the goals that the check of `all_readable` leaves open.
 use Rattle.std.proofs.Common.{arith}
 use Rattle.thunk_run.proofs.Ends.{readable_ends}
 use Rattle.thunk_run.proofs.put.all_readable.Goals as goal

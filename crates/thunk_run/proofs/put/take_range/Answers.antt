@@ -1,4 +1,4 @@
--- What is left to prove of `take_range`.
+-- Answers to the goals that the check of `take_range` leaves open.
 use Rattle.std.proofs.Common.{arith}
 use Rattle.thunk_run.proofs.Ends.{readable_first}
 use Rattle.thunk_run.proofs.put.take_range.Goals as goal

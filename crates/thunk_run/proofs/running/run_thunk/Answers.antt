@@ -1,4 +1,4 @@
--- What is left to prove of `run_thunk`.
+-- Answers to the goals that the check of `run_thunk` leaves open.
 use Rattle.std.proofs.Common.{◌∙◌, ap}
 use Rattle.std.specs.Arc.{arc_value}
 use Rattle.thunk_spec.specs.Thunk.{Frame}

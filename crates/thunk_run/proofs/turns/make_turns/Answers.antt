@@ -1,4 +1,4 @@
--- What is left to prove of `make_turns`.
+-- Answers to the goals that the check of `make_turns` leaves open.
 use Rattle.std.proofs.Common.{◌≡◌, ℕ, ◌+◌, ◌-◌, ◌<◌, ◌≤◌, ◌⊎◌, Bool, true, false, ◌∙◌, sym, inl, inr, arith}
 use Rattle.thunk_run.proofs.Leaving.{turns-next, turns-call, turns-trap}
 use Rattle.thunk_run.proofs.Entering.{turn-view, left-more}
@@ -8,7 +8,7 @@ use Rattle.thunk_run.proofs.turns.make_turns.Goals.{then-count-ge-LONG_TURNS+the
 use Rattle.thunk_run.proofs.turns.make_turns.Goals.{else-count-ge-LONG_TURNS-via-then-count-ge-LONG_TURNS+else-not-reported}
 use Rattle.thunk_run.proofs.turns.make_turns.Goals.{else-count-ge-LONG_TURNS-via-else-count-ge-LONG_TURNS}
 
--- there is room for one turn more, where the watch was told or there were few
+-- there is room for one more turn, whether the watch was notified or few turns were made
 one-more :
     (reported : Bool) (made before until fuel : ℕ)
     → made < fuel → until ≡ before → before ≤ fuel

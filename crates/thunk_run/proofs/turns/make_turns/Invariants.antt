@@ -1,4 +1,4 @@
--- What holds at the loop of `make_turns`.
+-- The invariant of the loop of `make_turns`.
 use Rattle.std.proofs.Common.{◌≡◌, ◌+◌, ◌-◌, ◌≤◌, ◌⊎◌, false}
 use Rattle.thunk_run.specs.TurnsOutcome.{left_after, counted}
 use Rattle.thunk_run.specs.Seeing.{AreSeen}

@@ -1,4 +1,4 @@
--- What is left to prove of `file_of`.
+-- Answers to the goals that the check of `file_of` leaves open.
 use Rattle.std.proofs.Common.{◌≤◌, ◌<◌, length, arith}
 use Rattle.worked_guests.proofs.Sizes.{sizes}
 use Rattle.worked_guests.proofs.file.file_of.Goals as goal

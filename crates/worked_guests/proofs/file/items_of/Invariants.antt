@@ -1,4 +1,4 @@
--- What holds at the loop of `items_of`.
+-- The invariant of the loop of `items_of`.
 use Rattle.std.proofs.Common.{All}
 use Rattle.rv_asm.specs.Items.{IsWritable}
 use Rattle.worked_guests.proofs.file.items_of.Given as goal

@@ -1,4 +1,4 @@
--- What holds at the loop of `push_bytes`.
+-- The invariant of the loop of `push_bytes`.
 use Rattle.std.proofs.Common.{All}
 use Rattle.rv_asm.specs.Items.{IsWritable}
 use Rattle.worked_guests.proofs.line.push_bytes.Given as goal

@@ -1,4 +1,4 @@
--- What is left to prove of `graph_of`.
+-- Answers to the goals that the check of `graph_of` leaves open.
 use Rattle.propagate.proofs.Due.{few-facts, have-threads}
 use Rattle.worked_runs.proofs.orders.graph_of.Goals as goal
 

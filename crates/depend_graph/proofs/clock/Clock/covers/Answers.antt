@@ -1,4 +1,4 @@
--- The mask of the comparison is full just where no count of the other is above this clock's.
+-- The mask of the comparison is full exactly if no count of the other is above this clock's.
 use Rattle.std.proofs.Common.{◌≡◌, ℕ, ◌+◌, ◌≤◌, ◌^◌, ◌%◌, leb, nat_eq, ap, sym, get_or, length, ◌∙◌, arith, w32}
 use Rattle.std.specs.Simd.Lanes.{zip2, mask_l}
 use Rattle.std.proofs.lemmas.Bool.{eqb-true}

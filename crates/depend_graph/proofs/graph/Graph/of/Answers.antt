@@ -1,4 +1,4 @@
--- One step more is past, and has its clock.
+-- One more step is past, and has its clock.
 use Rattle.std.proofs.Common.{◌≡◌, ◌<◌, ◌+◌, ◌++◌, ℕ, List, [], ◌∷◌, length, get_or, sym, ap, ◌∙◌, subst, inl, inr, arith}
 use Rattle.std.proofs.lemmas.Bool.{cases_lt}
 use Rattle.std.proofs.lemmas.List.{get_or_append_left, get_or_push, length_push}
@@ -7,7 +7,7 @@ use Rattle.depend_graph.specs.Joins.{IsClockOf}
 use Rattle.depend_graph.specs.Past.{IsPastOf}
 use Rattle.depend_graph.proofs.graph.Graph.of.Goals as goal
 
--- each of some clocks is that of its step, with one more
+-- each clock of a list is that of its step, if it is so of the list before one more clock and of that clock
 clocks-next :
     (fs : List Fact) (clocks new : List (List ℕ)) (clock : List ℕ) (i : ℕ)
     → length clocks ≡ i → new ≡ clocks ++ clock ∷ []

@@ -1,4 +1,4 @@
--- The threads of facts stay, where their pages are left out.
+-- Facts without their pages have the same threads.
 use Rattle.std.proofs.Common.{◌≡◌, ◌<◌, List, length, map, get_or, ap, sym, ◌∙◌, subst, arith}
 use Rattle.std.proofs.lemmas.List.{take_all, length-map, get_or-map}
 use Rattle.history_spec.specs.Facts.{Fact}

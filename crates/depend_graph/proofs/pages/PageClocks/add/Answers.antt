@@ -1,4 +1,4 @@
--- The clock was joined to that of one page more.
+-- The clock was joined to that of one more page.
 use Rattle.std.proofs.Common.{arith}
 use Rattle.std.proofs.lemmas.List.{take_all}
 use Rattle.depend_graph.specs.Clocks.{page_clock}

@@ -1,4 +1,4 @@
--- The clock of one page more was joined into it.
+-- The clock of one more page was joined into it.
 use Rattle.std.proofs.Common.{arith}
 use Rattle.depend_graph.specs.Clocks.{page_clock}
 use Rattle.depend_graph.proofs.Largest.{largest_more}

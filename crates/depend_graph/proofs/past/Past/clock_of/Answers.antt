@@ -1,4 +1,4 @@
--- The joined clock, with one step more of the thread, is that of the step.
+-- The joined clock, with one more step of the thread, is that of the step.
 use Rattle.std.proofs.Common.{◌≡◌, ◌<◌, ℕ, ◌+◌, eqb, cond, slice_index, sym, ap, ◌∙◌, subst, arith}
 use Rattle.std.proofs.lemmas.List.{get_or_read}
 use Rattle.guest_call.specs.declared.thread_number.TheConstants.{THREADS}

@@ -1,4 +1,4 @@
--- What the step does gathers the clocks of all that it must come after.
+-- The clocks that are joined for a step are those of all that it must come after.
 use Rattle.std.proofs.Common.{◌∙◌, arith}
 use Rattle.std.proofs.lemmas.List.{get_or_read}
 use Rattle.history_spec.specs.Before.{no_fact}

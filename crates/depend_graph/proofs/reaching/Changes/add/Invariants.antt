@@ -1,4 +1,4 @@
--- The pages so far show a change.
+-- The pages so far have a change.
 use Rattle.std.proofs.Common.{◌≡◌, ℕ, ◌||◌, ◌&&◌, leb, take}
 use Rattle.history_spec.specs.Before.{is_in}
 use Rattle.depend_graph.specs.Reaching.{shows}

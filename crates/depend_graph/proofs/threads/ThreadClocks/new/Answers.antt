@@ -1,4 +1,4 @@
--- Each clock of the list counts nothing, also past its end.
+-- Each count of the clock is 0, also past its end.
 use Rattle.std.proofs.Common.{◌≡◌, ℕ, zero, suc, List, [], replicate, slice_index, get_or, refl}
 use Rattle.depend_graph.proofs.threads.ThreadClocks.new.Goals as goal
 

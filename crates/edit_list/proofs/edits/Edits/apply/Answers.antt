@@ -1,4 +1,4 @@
--- What is left to prove of `Edits::apply`.
+-- Answers to the goals that the check of `Edits::apply` leaves open.
 use Rattle.std.proofs.Common.{◌≡◌, ℕ, List, map, length, ap, subst, ◌∙◌, arith}
 use Rattle.edit_spec.specs.Edit.{LineEdit}
 use Rattle.edit_list.specs.Said.{line_said}

@@ -1,4 +1,4 @@
--- What is left to prove of `Inputs::len`.
+-- Answers to the goals that the check of `Inputs::len` leaves open.
 use Rattle.std.proofs.Common.{◌≡◌, suc, length, ap, sym, ◌∙◌, arith}
 use Rattle.edit_list.specs.Pending.{inputs_to_come}
 use Rattle.edit_list.proofs.Leading.{inputs-count}

@@ -1,4 +1,4 @@
--- What is left to prove of `Outline::call`.
+-- Answers to the goals that the check of `Outline::call` leaves open.
 use Rattle.std.proofs.Common.{sym, ◌∙◌}
 use Rattle.history_facts.proofs.Applying.{acts-exists, acts-free, called-served}
 use Rattle.history_facts.proofs.outline.Outline.call.Goals as goal

@@ -1,4 +1,4 @@
--- What is left to prove of `Outline::new`.
+-- Answers to the goals that the check of `Outline::new` leaves open.
 use Rattle.history_facts.proofs.Outlining.{outline-first}
 use Rattle.history_facts.proofs.outline.Outline.new.Goals as goal
 

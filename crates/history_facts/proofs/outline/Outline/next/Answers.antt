@@ -1,4 +1,4 @@
--- What is left to prove of `Outline::next`.
+-- Answers to the goals that the check of `Outline::next` leaves open.
 use Rattle.std.proofs.Common.{◌≡◌, ap, ◌∙◌}
 use Rattle.history_spec.specs.Facts as order
 use Rattle.machine_spec.specs.Step as step

@@ -1,4 +1,4 @@
--- What is left to prove of `Outline::perform`.
+-- Answers to the goals that the check of `Outline::perform` leaves open.
 use Rattle.std.proofs.Common.{◌≡◌, ◌+◌, cond, set, get_or, is_some, refl, sym, ap, subst, ◌∙◌, arith}
 use Rattle.guest_call.specs.Objects.{created_count}
 use Rattle.machine_spec.specs.Step as step

@@ -1,4 +1,4 @@
--- What is left to prove of `Replay::apply`.
+-- Answers to the goals that the check of `Replay::apply` leaves open.
 use Rattle.std.proofs.Common.{◌≡◌, true, sym, subst}
 use Rattle.machine_spec.specs.Machine.{Machine}
 use Rattle.release_core.specs.Applying.{can_apply}

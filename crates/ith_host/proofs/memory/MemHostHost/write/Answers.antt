@@ -1,4 +1,4 @@
--- Answers to the goals that the check leaves of `write`.
+-- Answers to the goals that the check of `write` leaves open.
 use Rattle.std.proofs.Common.{refl, arith}
 use Rattle.std.proofs.lemmas.Map.Text.{text_keys}
 use Rattle.ith_host.proofs.memory.MemHostHost.write.Goals as goal

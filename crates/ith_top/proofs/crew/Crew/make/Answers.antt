@@ -1,4 +1,4 @@
--- What is left to prove of `Crew::make`.
+-- Answers to the goals that the check of `Crew::make` leaves open.
 use Rattle.std.proofs.Common.{rules, option_map}
 use Rattle.std.specs.Arc.{arc_value}
 use Rattle.propagate.specs.Executing.{IsCostOf}

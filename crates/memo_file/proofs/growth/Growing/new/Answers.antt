@@ -1,4 +1,4 @@
--- Answers to the goals that the check leaves of `new`.
+-- Answers to the goals that the check of `new` leaves open.
 use Rattle.memo_file.proofs.Counting.{no_counts}
 use Rattle.memo_file.proofs.growth.Growing.new.Goals as goal
 

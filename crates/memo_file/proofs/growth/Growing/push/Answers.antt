@@ -1,4 +1,4 @@
--- What is left to prove of `push`: the counts after a record more.
+-- Answers to the goals that the check of `push` leaves open: the counts after one more record.
 use Rattle.std.proofs.Common.{◌≡◌, ◌++◌, ◌∷◌, [], length, sym, ap, subst, ◌∙◌, rules, arith}
 use Rattle.std.specs.Arc.{arc_value}
 use Rattle.memo_file.specs.Growth.{Growth, AreCounts}

@@ -1,4 +1,4 @@
--- A page more.
+-- One more page.
 use Rattle.memo_file.proofs.WritingPool.{one_lent}
 use Rattle.memo_file.proofs.writing.body.write_pool.Goals as goal
 

@@ -1,4 +1,4 @@
--- What was written, and the pages that are left.
+-- What was written, and the remaining pages.
 use Rattle.std.proofs.Common.{◌≡◌, ◌++◌, drop, length}
 use Rattle.std.specs.List.{concat}
 use Rattle.memo_spec.specs.Encoding.{word}

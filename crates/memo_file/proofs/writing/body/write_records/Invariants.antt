@@ -1,4 +1,4 @@
--- What was written, what encodes the records that are left, and the places that they need.
+-- What was written, the encoding of the remaining records, and the places that they need.
 use Rattle.std.proofs.Common.{◌≡◌, ◌≤◌, ◌++◌, drop, map, length}
 use Rattle.std.specs.List.{flat_map}
 use Rattle.memo_spec.specs.Encoding.{record_bytes, pool_of, index_in, pages_read}

@@ -1,4 +1,4 @@
--- Where the page stands at the place that was hinted at, nothing is added.
+-- If the page is at the place that was hinted at, nothing is added.
 use Rattle.std.proofs.Common.{◌≡◌, refl, sym, rules}
 use Rattle.memo_file.proofs.WritingPool.{stands_there, stands_for}
 use Rattle.memo_file.proofs.writing.pool.add_read.Goals as goal

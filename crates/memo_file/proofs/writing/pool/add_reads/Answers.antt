@@ -1,4 +1,4 @@
--- A read page more.
+-- One more read page.
 use Rattle.std.proofs.Common.{◌≡◌, length, Some, refl, arith}
 use Rattle.std.specs.Prelude.{slice_get}
 use Rattle.std.proofs.lemmas.Option.{slice_get_read}

@@ -1,4 +1,4 @@
--- The records that are left lead from the pool so far to the pool of all, and to the places of all.
+-- The remaining records lead from the pool so far to the pool of all, and to the places of all.
 use Rattle.std.proofs.Common.{◌≡◌, ◌+◌, ◌<◌, ◌^◌, ◌++◌, [], length, drop}
 use Rattle.std.specs.List.{fold}
 use Rattle.memo_spec.specs.Encoding.{with_page, pages_read, pool_of}

@@ -1,4 +1,4 @@
--- The new page stands behind the others, in the map too.
+-- The new page is after the others, in the map too.
 use Rattle.std.proofs.Common.{◌≡◌, List, ℕ, length, rules, sym, ◌∙◌}
 use Rattle.std.proofs.lemmas.List.{map_push, length-map}
 use Rattle.std.proofs.lemmas.Map.Text.{btree_map_updates_str}

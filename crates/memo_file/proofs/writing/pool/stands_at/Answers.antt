@@ -1,4 +1,4 @@
--- The page that stands at the place was compared.
+-- The page at the place was compared.
 use Rattle.memo_file.proofs.WritingPool.{lent_stands}
 use Rattle.memo_file.proofs.writing.pool.stands_at.Goals as goal
 

@@ -1,4 +1,4 @@
--- What was written, and what encodes the read pages that are left.
+-- What was written, and the encoding of the remaining read pages.
 use Rattle.std.proofs.Common.{◌≡◌, ◌++◌, drop}
 use Rattle.std.specs.List.{flat_map}
 use Rattle.memo_spec.specs.Encoding.{read_page}

@@ -1,4 +1,4 @@
--- A word more adds its marks.
+-- One more word adds its marks.
 use Rattle.std.proofs.Common.{arith}
 use Rattle.std.proofs.lemmas.Nat.{ones-le}
 use Rattle.memo_file.proofs.WritingMasks.{count_step}

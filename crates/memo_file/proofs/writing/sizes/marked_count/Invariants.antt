@@ -1,4 +1,4 @@
--- The marks so far, and those that are left. A word says how many places there are.
+-- The marks so far, and the remaining ones. Once a word was read, there are 4,096 places.
 use Rattle.std.proofs.Common.{◌≡◌, ◌<◌, ◌+◌, ◌*◌, ◌≤◌, drop, length}
 use Rattle.memo_file.specs.WritingMasks.{marks_in}
 use Rattle.memo_file.proofs.writing.sizes.marked_count.Given as goal

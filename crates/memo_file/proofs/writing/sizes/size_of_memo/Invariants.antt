@@ -1,4 +1,4 @@
--- The size so far, and that of the records that are left.
+-- The size so far, and that of the remaining records.
 use Rattle.std.proofs.Common.{◌≡◌, ◌+◌, ◌*◌, ◌^◌, ◌≤◌, drop}
 use Rattle.std.specs.Prelude.{sum_by}
 use Rattle.memo_file.specs.WritingSizes.{record_size, memo_size}

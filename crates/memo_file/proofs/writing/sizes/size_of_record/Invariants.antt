@@ -1,4 +1,4 @@
--- The size so far, and that of the stored pages that are left.
+-- The size so far, and that of the remaining stored pages.
 use Rattle.std.proofs.Common.{◌≡◌, ◌+◌, ◌*◌, ◌≤◌, drop, length}
 use Rattle.std.specs.Prelude.{sum_by}
 use Rattle.memo_file.specs.WritingSizes.{stored_size, record_size}

@@ -1,4 +1,4 @@
--- What was written, and the marked bytes that are left. A word says how many places there are.
+-- What was written, and the remaining marked bytes. Once a word was read, there are 4,096 places.
 use Rattle.std.proofs.Common.{◌≡◌, ◌<◌, ◌*◌, ◌++◌, drop, length}
 use Rattle.thunk_spec.specs.Delta.{chosen}
 use Rattle.memo_file.proofs.writing.stored.write_marked.Given as goal

@@ -1,4 +1,4 @@
--- A word more.
+-- One more word.
 use Rattle.std.proofs.Common.{arith}
 use Rattle.memo_file.proofs.WritingMasks.{mask_step}
 use Rattle.memo_file.proofs.writing.stored.write_mask.Goals as goal

@@ -1,4 +1,4 @@
--- What was written, and what encodes the marks that are left. A word says how many places there are.
+-- What was written, and the encoding of the remaining marks. Once a word was read, there are 4,096 places.
 use Rattle.std.proofs.Common.{◌≡◌, ◌<◌, ◌*◌, ◌++◌, drop, length}
 use Rattle.memo_spec.specs.Encoding.{mask}
 use Rattle.memo_file.proofs.writing.stored.write_mask.Given as goal

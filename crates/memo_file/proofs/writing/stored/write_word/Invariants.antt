@@ -1,4 +1,4 @@
--- What was written, the marks of the word that are left, and the marked bytes that are.
+-- What was written, the remaining marks of the word, and the remaining marked bytes.
 use Rattle.std.proofs.Common.{◌≡◌, ◌+◌, ◌-◌, ◌*◌, ◌≤◌, ◌++◌, drop}
 use Rattle.std.specs.Simd.Lanes.{mask_l}
 use Rattle.thunk_spec.specs.Delta.{chosen}

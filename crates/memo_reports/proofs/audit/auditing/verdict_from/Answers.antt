@@ -1,4 +1,4 @@
--- Answers to the goals that the check leaves of `verdict_from`.
+-- Answers to the goals that the check of `verdict_from` leaves open.
 use Rattle.std.proofs.Common.{◌≡◌, ◌+◌, ◌==◌, ℕ, true, [], length, sym, ◌∙◌, subst, arith}
 use Rattle.std.proofs.lemmas.Bool.{eqb-true}
 use Rattle.memo_reports.specs.Claims.{IsFoundIn}

@@ -1,4 +1,4 @@
--- Answers to the goals that the check leaves of `claims_from`.
+-- Answers to the goals that the check of `claims_from` leaves open.
 use Rattle.std.proofs.Common.{◌≡◌, ◌+◌, ◌++◌, true, List, [], ◌∷◌, length, drop, Some, sym, ap, ◌∙◌, arith, rules}
 use Rattle.std.specs.Prelude.{slice_get}
 use Rattle.std.specs.Arc.{arc_value}

@@ -1,4 +1,4 @@
--- There are fewer workers each time.
+-- The number of workers falls each time.
 use Rattle.memo_reports.proofs.audit.executing.+audit_together+fn-audit_together-join+arg2+fn-audit_together-join+arg3.Given as goal
 
 abbrev pub decreases-audit_together : goal.decreases-audit_together

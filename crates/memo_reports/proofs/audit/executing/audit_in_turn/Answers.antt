@@ -1,4 +1,4 @@
--- Answers to the goals that the check leaves of `audit_in_turn`.
+-- Answers to the goals that the check of `audit_in_turn` leaves open.
 use Rattle.std.proofs.Common.{◌≡◌, ◌+◌, ◌++◌, ℕ, List, [], ◌∷◌, length, take, get_or, sym, ap, ◌∙◌, subst, arith, rules}
 use Rattle.std.proofs.lemmas.List.{take_more, length-take-le}
 use Rattle.memo_reports.specs.declared.audit.claims.Claim.{Claim}

@@ -1,4 +1,4 @@
--- Answers to the goals that the check leaves of `is_same_delta`.
+-- Answers to the goals that the check of `is_same_delta` leaves open.
 use Rattle.std.proofs.Common.{◌≡◌, Decides, rules}
 use Rattle.std.proofs.lemmas.Slice.Eq.{bytes_eq-Decides}
 use Rattle.thunk_spec.specs.Delta.{chosen, spread}

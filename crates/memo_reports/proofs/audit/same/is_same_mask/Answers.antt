@@ -1,4 +1,4 @@
--- Answers to the goals that the check leaves of `is_same_mask`.
+-- Answers to the goals that the check of `is_same_mask` leaves open.
 use Rattle.std.proofs.Common.{refl, arith}
 use Rattle.memo_reports.proofs.Masking.{words-same}
 use Rattle.memo_reports.proofs.audit.same.is_same_mask.Goals as goal

@@ -1,4 +1,4 @@
--- The words so far are the same. A word says how many places there are.
+-- The words so far are the same. Once a word was read, there are 4,096 places.
 use Rattle.std.proofs.Common.{ℕ, ◌≡◌, ◌<◌, length}
 use Rattle.memo_reports.proofs.Masking.{SameWord}
 use Rattle.memo_reports.proofs.audit.same.is_same_mask.Given as goal

@@ -1,4 +1,4 @@
--- The page is one of those behind the first.
+-- The page is one of those after the first.
 use Rattle.std.proofs.Common.{◌<◌, length, sym, subst, arith}
 use Rattle.thunk_spec.specs.Reads.{ReadPage}
 use Rattle.memo_reports.proofs.Entries.{address_next, later_in_range}

@@ -1,4 +1,4 @@
--- The addresses so far stand, each after a comma, behind what was there.
+-- The addresses so far, each after a comma, come after what was there.
 use Rattle.std.proofs.Common.{◌≡◌, ◌++◌, take, flat_map}
 use Rattle.std.specs.Prelude.{codes}
 use Rattle.thunk_spec.specs.Delta.{PageDelta}

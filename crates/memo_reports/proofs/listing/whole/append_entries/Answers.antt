@@ -1,4 +1,4 @@
--- One record's line more.
+-- One more record's line.
 use Rattle.std.proofs.Common.{◌≡◌, ◌+◌, Some, ◌++◌, slice_get, drop, sym, ap, ◌∙◌, append_assoc}
 use Rattle.memo_reports.specs.Listing.{entry_lines}
 use Rattle.memo_reports.proofs.Entries.{mapped_at, lines_from}

@@ -1,4 +1,4 @@
--- What was there, with all lines, is what is there now, with the lines of the records that are left.
+-- What is there now, with the lines of the remaining records, is what was there, with all lines.
 use Rattle.std.proofs.Common.{◌≡◌, ◌++◌, drop}
 use Rattle.memo_reports.specs.Listing.{entry_lines}
 use Rattle.memo_reports.proofs.listing.whole.append_entries.Given as goal

@@ -1,4 +1,4 @@
--- One page more without an access.
+-- One more page without an access.
 use Rattle.std.proofs.Common.{◌≡◌, ◌+◌, ℕ, List, [], All, length, sym, ap, ◌∙◌, subst}
 use Rattle.std.proofs.lemmas.List.{length_push}
 use Rattle.std.proofs.lemmas.List.Elements.{All-push}

@@ -1,4 +1,4 @@
--- So many pages have no access.
+-- The pages so far have no access.
 use Rattle.std.proofs.Common.{◌≡◌, [], All, length}
 use Rattle.memo_reports.specs.declared.races.past.PagePast.{PagePast}
 use Rattle.memo_reports.proofs.races.finding.none_past.Given as goal

@@ -1,4 +1,4 @@
--- One page more, and one step more.
+-- One more page, and one more step.
 use Rattle.std.proofs.Common.{◌≡◌, ◌<◌, ◌≤◌, ◌+◌, ◌⊎◌, ℕ, false, ◌++◌, List, [], length, take, get_or, append-nil, ap, sym, ◌∙◌, subst, inl, inr, arith}
 use Rattle.std.specs.List.{filter, flat_map, range_with_len, count_by}
 use Rattle.std.proofs.lemmas.List.{length-set, get_or_default}
@@ -20,7 +20,7 @@ use Rattle.memo_reports.proofs.Earlier.{racing-counted, row-reported, none-mispl
 use Rattle.memo_reports.proofs.Adding as adding
 use Rattle.memo_reports.proofs.races.finding.races.Goals as goal
 
--- what stands for a page past the end
+-- the stand-in for a page past the end
 abbrev none : Touch
 none = record { slot = 0; writes = false }
 

@@ -1,4 +1,4 @@
--- What isn't before a number stands at the end.
+-- The elements that aren't before a number are at the end.
 use Rattle.std.proofs.Common.{◌≡◌, ◌<◌, ◌≤◌, ◌-◌, ℕ, false, not, ltb, List, length, drop, get_or, rules, refl, ap, arith}
 use Rattle.std.specs.List.{filter}
 use Rattle.std.specs.List.Sorted.{IsNonDecreasingBy}
@@ -10,7 +10,7 @@ use Rattle.memo_reports.proofs.Tally.{drop-passing}
 use Rattle.memo_reports.proofs.races.past.first_from.Goals as goal
 use Rattle.memo_reports.proofs.races.past.first_from.Goals.{then-count-eq0-via-then-count-eq0, then-count-eq0-via-else-count-eq0+then-number-accesses}
 
--- what stands for an access past the end
+-- the stand-in for an access past the end
 abbrev none : Access
 none = record { place = 0; thread = 0; number = 0; writes = false }
 

@@ -1,4 +1,4 @@
--- The step that was looked at last gave the view, or is of the same thread.
+-- The last step that was looked at gave the view, or is of the same thread.
 use Rattle.std.proofs.Common.{◌≡◌, ◌-◌, ℕ, suc, true, false, List, ap, ap₂, sym, ◌∙◌, subst, arith}
 use Rattle.std.proofs.lemmas.List.{get_or_read}
 use Rattle.history_spec.specs.Facts.{Fact}

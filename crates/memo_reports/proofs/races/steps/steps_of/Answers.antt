@@ -36,7 +36,7 @@ count-few p (suc n) = by-bit (p n) (count-few p n)
     by-bit true few = omega arith
     by-bit false few = omega arith
 
--- one step more of a thread is counted
+-- one more step of a thread is counted
 count-next :
     (fs : List Fact) (numbers : List ℕ) (i t u : ℕ) → t ≡ (fact_at fs i).thread → t < length numbers
     → get_or numbers u 0 ≡ count_below (λ k. eqb (fact_at fs k).thread u) i

@@ -1,4 +1,4 @@
--- One page more is taken off the front of what is left.
+-- One more page is taken from the front of the remaining ones.
 use Rattle.std.proofs.Common.{◌≡◌, ◌<◌, ◌≤◌, ◌+◌, ℕ, Bool, true, false, eqb, cond, List, [], ◌∷◌, ◌++◌, length, drop, get_or, append_assoc, append-nil, refl, ap, ap₂, sym, ◌∙◌, inl, inr, ◌⊎◌, arith}
 use mir.Val.{bool_byte}
 use Rattle.std.proofs.lemmas.Bool.{cases_lt}
@@ -13,7 +13,7 @@ use Rattle.memo_reports.proofs.races.touches.merged.Goals.{then-next_read-reads,
 head-of-rest : (ps : List ℕ) (n pages : ℕ) → get_or (drop n ps) 0 pages ≡ get_or ps n pages
 head-of-rest ps n pages = get_or-drop n ps 0 pages ∙ ap (λ (k : ℕ). get_or ps k pages) (omega arith)
 
--- what is left of both lists, one page on
+-- the remaining pages of both lists, after one more was taken
 one-more :
     (pages slot a b : ℕ) (reads written : List ℕ)
     → ascends 0 reads ≡ true → ascends 0 written ≡ true → slot < pages
@@ -42,7 +42,7 @@ byte : (b : Bool) → bool_byte b ≡ cond b 1 0
 byte true = refl
 byte false = refl
 
--- no page is taken off where none is left
+-- no page is taken if none remains
 stays-within :
     (ps : List ℕ) (n pages slot : ℕ) → n ≤ length ps → slot < pages
     → n + cond (eqb (get_or ps n pages) slot) 1 0 ≤ length ps

@@ -1,4 +1,4 @@
--- The pages so far, with those that are left, are all.
+-- The pages so far, with the remaining ones, are all.
 use Rattle.std.proofs.Common.{◌≡◌, ◌≤◌, ◌+◌, ◌-◌, ◌++◌, length, drop}
 use Rattle.memo_reports.specs.Touches.{touches_in}
 use Rattle.memo_reports.proofs.races.touches.merged.Given as goal

@@ -1,4 +1,4 @@
--- Answers to the goals that the check leaves of `with_page`.
+-- Answers to the goals that the check of `with_page` leaves open.
 use Rattle.std.proofs.Common.{ap, set, map, ◌∙◌}
 use Rattle.std.proofs.lemmas.List.{map-set}
 use Rattle.std.specs.Arc.{arc_value}

@@ -1,4 +1,4 @@
--- Answers to the goals that the check leaves of `add`.
+-- Answers to the goals that the check of `add` leaves open.
 use Rattle.std.proofs.Common.{◌<◌, ◌+◌, ◌/◌, ◌%◌, set, get_or, sym, subst, arith}
 use Rattle.page_store.specs.MapTables.{IsTable}
 use Rattle.page_store.proofs.MapTables.{table-place}

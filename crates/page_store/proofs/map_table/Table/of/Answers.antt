@@ -1,4 +1,4 @@
--- Answers to the goals that the check leaves of `of`.
+-- Answers to the goals that the check of `of` leaves open.
 use Rattle.std.proofs.Common.{refl}
 use Rattle.page_store.proofs.MapTables.{table-empty}
 use Rattle.page_store.proofs.map_table.Table.of.Goals as goal

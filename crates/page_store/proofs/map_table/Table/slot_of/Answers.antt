@@ -1,4 +1,4 @@
--- Answers to the goals that the check leaves of `slot_of`.
+-- Answers to the goals that the check of `slot_of` leaves open.
 use Rattle.std.proofs.Common.{◌≡◌, ◌<◌, ◌+◌, ◌-◌, ◌/◌, ◌%◌, suc, length, get_or, ap, sym, ◌∙◌, arith}
 use Rattle.std.proofs.lemmas.Grind.{get_or_default_zero}
 use Rattle.page_store.specs.MapTables.{place_of}

@@ -1,4 +1,4 @@
--- Answers to the goals that the check leaves of `start_for`.
+-- Answers to the goals that the check of `start_for` leaves open.
 use Rattle.page_store.proofs.MapTables.{table-block}
 use Rattle.page_store.proofs.map_table.Table.start_for.Goals as goal
 

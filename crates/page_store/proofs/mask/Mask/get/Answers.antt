@@ -1,4 +1,4 @@
--- Answers to the goals that the check leaves of `get`.
+-- Answers to the goals that the check of `get` leaves open.
 use Rattle.page_store.proofs.Marks.{length-flags_of, tested_at}
 use Rattle.page_store.proofs.mask.Mask.get.Goals as goal
 

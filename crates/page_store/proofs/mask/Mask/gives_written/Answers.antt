@@ -1,4 +1,4 @@
--- Answers to the goals that the check leaves of `gives_written`.
+-- Answers to the goals that the check of `gives_written` leaves open.
 use Rattle.std.proofs.Common.{◌≡◌, ◌+◌, ◌*◌, ◌≤◌, false, true, length, refl, sym, subst, arith}
 use Rattle.page_store.proofs.Giving.{IsGiven, given_word, given_first, given_past, given_beyond, given_run, run_given, given_page, page_given}
 use Rattle.page_store.proofs.mask.Mask.gives_written.Goals as goal

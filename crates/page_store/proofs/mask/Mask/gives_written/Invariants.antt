@@ -1,5 +1,5 @@
--- Places from one on up to the next word's aren't marked, and those before have the written bytes then. A word says how
--- many places there are.
+-- Places from one up to the next word's aren't marked, and those before have the written bytes then. Once a word was
+-- read, there are 4,096 places.
 use Rattle.std.proofs.Common.{◌≡◌, ◌<◌, ◌*◌, length}
 use Rattle.page_store.proofs.Giving.{IsGiven}
 use Rattle.page_store.proofs.mask.Mask.gives_written.Given as goal

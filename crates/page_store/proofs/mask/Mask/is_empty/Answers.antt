@@ -1,4 +1,4 @@
--- Answers to the goals that the check leaves of `is_empty`.
+-- Answers to the goals that the check of `is_empty` leaves open.
 use Rattle.std.proofs.Common.{ap, sym, not, arith}
 use Rattle.page_store.proofs.Marks.{is_stored-zeros, is_stored-word}
 use Rattle.page_store.proofs.mask.Mask.is_empty.Goals as goal

@@ -1,4 +1,4 @@
--- Answers to the goals that the check leaves of `merge`.
+-- Answers to the goals that the check of `merge` leaves open.
 use Rattle.std.proofs.Common.{◌≡◌, ◌+◌, ◌*◌, length, take, arith, sym, ap, subst, ◌∙◌}
 use Rattle.thunk_spec.proofs.Merging.{merged}
 use Rattle.page_store.proofs.Picking.{HasWord, merged-nil, merged-word, merged-all, no_word}

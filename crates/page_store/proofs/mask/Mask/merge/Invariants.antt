@@ -1,4 +1,4 @@
--- The page is merged at the places of the words so far. A word says how many places there are.
+-- The page is merged at the places of the words so far. Once a word was read, there are 4,096 places.
 use Rattle.std.proofs.Common.{◌≡◌, ◌<◌, ◌*◌, length, take}
 use Rattle.thunk_spec.proofs.Merging.{merged}
 use Rattle.page_store.proofs.mask.Mask.merge.Given as goal

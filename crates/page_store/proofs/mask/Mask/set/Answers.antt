@@ -1,4 +1,4 @@
--- Answers to the goals that the check leaves of `set`.
+-- Answers to the goals that the check of `set` leaves open.
 use Rattle.page_store.proofs.Marks.{flags_of-set}
 use Rattle.page_store.proofs.mask.Mask.set.Goals as goal
 

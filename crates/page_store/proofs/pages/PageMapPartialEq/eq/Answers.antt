@@ -1,4 +1,4 @@
--- Answers to the goals that the check leaves of `eq`.
+-- Answers to the goals that the check of `eq` leaves open.
 use Rattle.page_store.proofs.MapComparing.{maps_decide}
 use Rattle.page_store.proofs.pages.PageMapPartialEq.eq.Goals as goal
 

@@ -1,4 +1,4 @@
--- Answers to the goals that the check leaves of `page`.
+-- Answers to the goals that the check of `page` leaves open.
 use Rattle.std.proofs.Common.{[], length, ◌∙◌, arith}
 use Rattle.std.specs.Arc.{arc_value}
 use Rattle.page_store.specs.Shelves.{pages_on}

@@ -1,4 +1,4 @@
--- Answers to the goals that the check leaves of `with_one_more`.
+-- Answers to the goals that the check of `with_one_more` leaves open.
 use Rattle.std.proofs.Common.{◌<◌, ◌%◌, length, map, ap, refl, ◌∙◌, arith}
 use Rattle.std.specs.Arc.{arc_value}
 use Rattle.page_store.proofs.Groups.{of_length}

@@ -1,4 +1,4 @@
--- Answers to the goals that the check leaves of `with_page`.
+-- Answers to the goals that the check of `with_page` leaves open.
 use Rattle.std.proofs.Common.{◌≡◌, ◌%◌, length, set, map, ap, refl, ◌∙◌, arith}
 use Rattle.std.specs.Arc.{arc_value}
 use Rattle.page_store.proofs.Groups.{of_length}

@@ -1,4 +1,4 @@
--- Answers to the goals that the check leaves of `len`.
+-- Answers to the goals that the check of `len` leaves open.
 use Rattle.std.proofs.Common.{arith}
 use Rattle.std.specs.Arc.{arc_value}
 use Rattle.page_store.proofs.Places.{count_is}

@@ -1,4 +1,4 @@
--- Answers to the goals that the check leaves of `page`.
+-- Answers to the goals that the check of `page` leaves open.
 use Rattle.std.proofs.Common.{[], ◌∙◌, arith}
 use Rattle.std.specs.Arc.{arc_value}
 use Rattle.page_store.proofs.Places.{group_of, place_of, page_at}

@@ -1,4 +1,4 @@
--- Answers to the goals that the check leaves of `page_arc`.
+-- Answers to the goals that the check of `page_arc` leaves open.
 use Rattle.std.proofs.Common.{[], arith}
 use Rattle.std.specs.Arc.{arc_value}
 use Rattle.page_store.proofs.Places.{group_of, place_of, page_at}

@@ -1,4 +1,4 @@
--- Answers to the goals that the check leaves of `push_owned`.
+-- Answers to the goals that the check of `push_owned` leaves open.
 use Rattle.std.proofs.Common.{◌≡◌, ℕ, ◌<◌, ◌+◌, ◌%◌, List, length, refl, sym, ◌∙◌, arith}
 use Rattle.std.proofs.lemmas.List.Elements.{All-push}
 use Rattle.std.specs.Arc.{arc_value}

@@ -1,4 +1,4 @@
--- Answers to the goals that the check leaves of `replace_owned`.
+-- Answers to the goals that the check of `replace_owned` leaves open.
 use Rattle.std.proofs.Common.{◌≡◌, List, ℕ, length, set, refl, ◌∙◌, ◌%◌, arith}
 use Rattle.std.proofs.lemmas.List.Elements.{All-set}
 use Rattle.std.specs.Arc.{arc_value}

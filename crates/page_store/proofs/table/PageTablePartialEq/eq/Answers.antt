@@ -1,4 +1,4 @@
--- Answers to the goals that the check leaves of `eq`.
+-- Answers to the goals that the check of `eq` leaves open.
 use Rattle.std.proofs.Common.{◌≡◌, ◌<◌, length, true, false, sym, ◌∙◌, arith}
 use Rattle.page_store.proofs.Comparing.{compared, same_page, differ, same-more, all_same}
 use Rattle.page_store.proofs.table.PageTablePartialEq.eq.Goals as goal

@@ -1,4 +1,4 @@
--- What holds at the loop of `PlainMachine::memory`.
+-- The invariant of the loop of `PlainMachine::memory`.
 use Rattle.std.proofs.Common.{◌≡◌, take}
 use Rattle.plain_machine.proofs.machine.PlainMachine.memory.Given as goal
 

@@ -1,4 +1,4 @@
--- What is left to prove of `PlainMachine::step`.
+-- Answers to the goals that the check of `PlainMachine::step` leaves open.
 use Rattle.std.proofs.Common.{◌≡◌, ◌+◌, ◌<◌, ◌++◌, true, List, length, refl, ap, sym, subst, ◌∙◌, arith}
 use Rattle.std.proofs.lemmas.Bool.{and_parts}
 use Rattle.std.proofs.lemmas.Grind.{common_steps}

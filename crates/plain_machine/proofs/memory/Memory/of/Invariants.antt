@@ -1,4 +1,4 @@
--- What holds at the loop of `Memory::of`.
+-- The invariant of the loop of `Memory::of`.
 use Rattle.std.proofs.Common.{◌≡◌, map, take}
 use Rattle.std.specs.Rc.{rc_value}
 use Rattle.plain_machine.proofs.memory.Memory.of.Given as goal

@@ -1,4 +1,4 @@
--- What is left to prove of `Memory::write`.
+-- Answers to the goals that the check of `Memory::write` leaves open.
 use Rattle.std.proofs.Common.{◌≡◌, map, set, ap, ◌∙◌}
 use Rattle.std.proofs.lemmas.List.{set-get_or}
 use Rattle.std.specs.Rc.{rc_value}

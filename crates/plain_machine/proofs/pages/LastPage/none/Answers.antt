@@ -1,4 +1,4 @@
--- What is left to prove of `LastPage::none`.
+-- Answers to the goals that the check of `LastPage::none` leaves open.
 use Rattle.std.proofs.Common.{arith}
 use Rattle.plain_machine.proofs.pages.LastPage.none.Goals as goal
 

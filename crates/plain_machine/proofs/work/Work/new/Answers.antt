@@ -1,4 +1,4 @@
--- What is left to prove of `Work::new`.
+-- Answers to the goals that the check of `Work::new` leaves open.
 use Rattle.std.specs.Arc.{arc_value}
 use Rattle.memory_spec.specs.Pages.{IsMemory}
 use Rattle.plain_machine.proofs.Merging.{kept-none}

@@ -1,4 +1,4 @@
--- What is left to prove of the store of `Work`.
+-- Answers to the goals that the check of `store` leaves open.
 use Rattle.std.proofs.Common.{◌≡◌, ◌++◌, [], ◌∷◌, length, refl, ap, sym, ◌∙◌}
 use Rattle.std.specs.Arc.{arc_value}
 use Rattle.memory_spec.specs.Pages.{allows, write_right, permission_at}
@@ -16,7 +16,7 @@ number c = record { address = c.args.address; size = c.args.size; value = c.args
 listed : (c : goal.In-Ok-apply_store) → c.push.new.self.items ≡ c.self.inside.stores.items ++ number c ∷ []
 listed c = c.in-Ok.ensures.items ∙ ap (λ (s : StoredNumber). c.self.inside.stores.items ++ s ∷ []) c.new-stored.ensures
 
--- and laid on the memory
+-- and applied to the memory
 pages :
     (c : goal.In-Ok-apply_store)
     → c.apply_store.new.memory ≡ with_stores (arc_value c.self.inside.map) c.self.inside.memory

@@ -1,4 +1,4 @@
--- Answers to the goals that the check leaves of `give_delta`.
+-- Answers to the goals that the check of `give_delta` leaves open.
 use Rattle.std.proofs.Common.{◌++◌, ap, sym, ◌∙◌}
 use Rattle.std.proofs.lemmas.List.{append-nil}
 use Rattle.priv_space.specs.Slots.{slot_marks}

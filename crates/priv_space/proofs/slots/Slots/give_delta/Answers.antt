@@ -1,4 +1,4 @@
--- Answers to the goals that the check leaves of `give_delta`.
+-- Answers to the goals that the check of `give_delta` leaves open.
 use Rattle.std.proofs.Common.{◌≡◌, get_or, set, refl, ap, ◌∙◌}
 use Rattle.priv_space.specs.Slots.{untouched}
 use Rattle.priv_space.proofs.Held.{put-slot}

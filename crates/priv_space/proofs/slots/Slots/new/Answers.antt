@@ -1,4 +1,4 @@
--- Answers to the goals that the check leaves of `new`.
+-- Answers to the goals that the check of `new` leaves open.
 use Rattle.std.proofs.Common.{◌≡◌, [], ◌∷◌, ◌++◌, ap, ◌∙◌}
 use Rattle.priv_space.specs.Slots.{untouched}
 use Rattle.priv_space.specs.Held.{all_held, held_at}

@@ -1,4 +1,4 @@
--- Answers to the goals that the check leaves of `next_touched`.
+-- Answers to the goals that the check of `next_touched` leaves open.
 use Rattle.std.proofs.Common.{◌≡◌, length, get_or, ap, ◌∙◌, sym, arith}
 use Rattle.priv_space.specs.Slots.{untouched}
 use Rattle.priv_space.proofs.Held.{length-all_held, untouched-held, next-free, next-listed}

@@ -1,4 +1,4 @@
--- Answers to the goals that the check leaves of `first_load`.
+-- Answers to the goals that the check of `first_load` leaves open.
 use Rattle.std.proofs.Common.{ap, sym, ◌∙◌}
 use Rattle.std.specs.Arc.{arc_value}
 use Rattle.memory_spec.specs.Access.{loaded}

@@ -1,4 +1,4 @@
--- Answers to the goals that the check leaves of `first_store`.
+-- Answers to the goals that the check of `first_store` leaves open.
 use Rattle.std.proofs.Common.{ap, sym, ◌∙◌}
 use Rattle.std.specs.Arc.{arc_value}
 use Rattle.memory_spec.specs.Access.{may_store}

@@ -1,4 +1,4 @@
--- Answers to the goals that the check leaves of `into_delta`.
+-- Answers to the goals that the check of `into_delta` leaves open.
 use Rattle.std.proofs.Common.{◌+◌, ◌++◌, length, ap, ◌∙◌, arith}
 use Rattle.std.proofs.lemmas.List.{length-set}
 use Rattle.memory_spec.specs.Pages.{page_of}

@@ -1,4 +1,4 @@
--- The pages so far, with what the slots still give, are all.
+-- The pages so far, with those that the slots still give, are all.
 use Rattle.std.proofs.Common.{◌≡◌, ◌++◌, ◌-◌, length}
 use Rattle.thunk_spec.specs.Delta.{delta_from}
 use Rattle.priv_space.proofs.Collecting.{deltas_left}

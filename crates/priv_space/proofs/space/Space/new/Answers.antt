@@ -1,4 +1,4 @@
--- Answers to the goals that the check leaves of `new`.
+-- Answers to the goals that the check of `new` leaves open.
 use Rattle.std.proofs.Common.{◌≡◌, List, ℕ, All, ap, subst, arith, length}
 use Rattle.std.specs.Arc.{arc_value}
 use Rattle.priv_space.proofs.Spaces.{fresh_space, fresh_fits}

@@ -1,4 +1,4 @@
--- Answers to the goals that the check leaves of `reads`.
+-- Answers to the goals that the check of `reads` leaves open.
 use Rattle.std.proofs.Common.{map, ap, ◌∙◌, arith}
 use Rattle.std.specs.Arc.{arc_value}
 use Rattle.thunk_spec.specs.Ascending.{reads_ascend}

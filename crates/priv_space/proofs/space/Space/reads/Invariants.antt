@@ -1,4 +1,4 @@
--- The pages so far, with what the other slots still add, are all.
+-- The pages so far, with those that the other slots still add, are all.
 use Rattle.std.proofs.Common.{◌≡◌, ◌++◌, ◌-◌, length}
 use Rattle.std.specs.Arc.{arc_value}
 use Rattle.priv_space.proofs.Collecting.{reads_left}

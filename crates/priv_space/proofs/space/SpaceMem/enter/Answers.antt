@@ -1,4 +1,4 @@
--- Answers to the goals that the check leaves of `enter`.
+-- Answers to the goals that the check of `enter` leaves open.
 use Rattle.std.proofs.Common.{refl, sym, ap, ◌∙◌}
 use Rattle.std.specs.Arc.{arc_value}
 use Rattle.memory_spec.specs.Pages.{allows, execute_right}

@@ -1,4 +1,4 @@
--- Answers to the goals that the check leaves of `fetch`.
+-- Answers to the goals that the check of `fetch` leaves open.
 use Rattle.std.proofs.Common.{refl, ap, sym, ◌∙◌}
 use Rattle.std.specs.Arc.{arc_value}
 use Rattle.memory_spec.specs.declared.Size.TheVariants.{Four}

@@ -1,4 +1,4 @@
--- Answers to the goals that the check leaves of `load`.
+-- Answers to the goals that the check of `load` leaves open.
 use Rattle.std.specs.Arc.{arc_value}
 use Rattle.priv_space.proofs.Spaces.{held_space}
 use Rattle.priv_space.proofs.space.SpaceMem.load.Goals as goal

@@ -1,4 +1,4 @@
--- Answers to the goals that the check leaves of `store`.
+-- Answers to the goals that the check of `store` leaves open.
 use Rattle.std.specs.Arc.{arc_value}
 use Rattle.memory_spec.specs.Pages.{allows, write_right}
 use Rattle.priv_space.proofs.Spaces.{fits-if, stored_again}

@@ -1,4 +1,4 @@
--- What is left to prove of `Round::all_leaders`.
+-- Answers to the goals that the check of `Round::all_leaders` leaves open.
 use Rattle.propagate.proofs.Choosing.{leaders-none}
 use Rattle.propagate.proofs.round.Round.all_leaders.Goals as goal
 

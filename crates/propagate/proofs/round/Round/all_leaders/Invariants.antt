@@ -1,4 +1,4 @@
--- What holds at the loop of `Round::all_leaders`.
+-- The invariant of the loop of `Round::all_leaders`.
 use Rattle.propagate.specs.Choosing.{AreLeadersBelow}
 use Rattle.propagate.proofs.round.Round.all_leaders.Given as goal
 

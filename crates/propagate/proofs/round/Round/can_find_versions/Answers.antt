@@ -1,4 +1,4 @@
--- What is left to prove of `Round::can_find_versions`.
+-- Answers to the goals that the check of `Round::can_find_versions` leaves open.
 use Rattle.std.proofs.Common.{◌≡◌, ap, subst, sym, ◌∙◌}
 use Rattle.round_spec.specs.Rounds.{RoundState}
 use Rattle.machine_spec.specs.Setup.{Setup, first}

@@ -1,4 +1,4 @@
--- What is left to prove of `Round::choice`.
+-- Answers to the goals that the check of `Round::choice` leaves open.
 use Rattle.std.proofs.Common.{◌≡◌, false, length, Some, None, option_map, sym, subst, ◌∙◌}
 use Rattle.std.specs.Arc.{arc_value}
 use Rattle.std.specs.List.{slice_get}
@@ -13,7 +13,7 @@ use Rattle.propagate.proofs.InStep.{in_step-next, in_step-over}
 use Rattle.propagate.proofs.Keeping.{record_count}
 use Rattle.propagate.proofs.round.Round.choice.Goals as goal
 
--- the round by its parts, which is in step with its history
+-- the round by its parts, which continues as its history did
 abbrev next : goal.In-Some-next_in_history → RoundState
 next c =
     record {

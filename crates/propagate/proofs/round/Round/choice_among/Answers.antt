@@ -1,4 +1,4 @@
--- What is left to prove of `Round::choice_among`.
+-- Answers to the goals that the check of `Round::choice_among` leaves open.
 use Rattle.std.proofs.Common.{◌≡◌, ◌||◌, true, false, is_some, sym, ◌∙◌}
 use Rattle.std.proofs.lemmas.Bool.{or_left, or_right, or_from}
 use Rattle.round_spec.specs.Choice.{is_any_in_flight}

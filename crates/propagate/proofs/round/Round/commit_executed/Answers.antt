@@ -1,4 +1,4 @@
--- What is left to prove of `Round::commit_executed`.
+-- Answers to the goals that the check of `Round::commit_executed` leaves open.
 use Rattle.std.proofs.Common.{◌≡◌, ◌<◌, ◌≤◌, ◌+◌, ℕ, Bool, false, set, length, Option, Vec, is_some, option_map, refl, ap, sym, subst, ◌∙◌, arith}
 use Rattle.std.specs.Arc.{arc_value}
 use Rattle.std.specs.Global.{Global}

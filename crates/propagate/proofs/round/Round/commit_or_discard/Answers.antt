@@ -1,4 +1,4 @@
--- What is left to prove of `Round::commit_or_discard`.
+-- Answers to the goals that the check of `Round::commit_or_discard` leaves open.
 use Rattle.std.proofs.Common.{ap, sym, subst, ◌∙◌}
 use Rattle.std.specs.Arc.{arc_value}
 use Rattle.std.specs.Bool.{OnTrue}

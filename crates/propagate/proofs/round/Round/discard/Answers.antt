@@ -1,4 +1,4 @@
--- What is left to prove of `Round::discard`.
+-- Answers to the goals that the check of `Round::discard` leaves open.
 use Rattle.std.proofs.Common.{◌≡◌, true, refl, add-one, sym, subst, ◌∙◌, arith}
 use Rattle.std.proofs.lemmas.Grind.{common_steps}
 use Rattle.round_spec.specs.Rounds.{RoundState, is_in_flight}

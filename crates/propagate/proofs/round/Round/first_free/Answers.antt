@@ -1,4 +1,4 @@
--- What is left to prove of `Round::first_free`.
+-- Answers to the goals that the check of `Round::first_free` leaves open.
 use Rattle.propagate.proofs.Choosing.{first-none}
 use Rattle.propagate.proofs.round.Round.first_free.Goals as goal
 

@@ -1,4 +1,4 @@
--- What holds at the loop of `Round::first_free`.
+-- The invariant of the loop of `Round::first_free`.
 use Rattle.std.proofs.Common.{◌≡◌}
 use Rattle.propagate.specs.Choosing.{leader_of, free_below}
 use Rattle.propagate.proofs.round.Round.first_free.Given as goal

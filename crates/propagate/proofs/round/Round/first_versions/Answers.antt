@@ -1,4 +1,4 @@
--- What is left to prove of `Round::first_versions`.
+-- Answers to the goals that the check of `Round::first_versions` leaves open.
 use Rattle.std.proofs.Common.{◌≡◌, ◌≤◌, ℕ, ap, sym, subst, ◌∙◌, option_map, Option, Some, length, List}
 use Rattle.std.specs.Arc.{arc_value}
 use Rattle.history_spec.specs.History.{History, past_records}

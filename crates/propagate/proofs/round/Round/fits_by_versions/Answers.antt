@@ -1,4 +1,4 @@
--- What is left to prove of `Round::fits_by_versions`.
+-- Answers to the goals that the check of `Round::fits_by_versions` leaves open.
 use Rattle.std.proofs.Common.{◌≡◌, ◌&&◌, ℕ, Bool, List, ap, ap₂, sym, subst, ◌∙◌}
 use Rattle.isa_spec.specs.Registers.{same_registers}
 use Rattle.memory_spec.specs.Pages.{Memory}

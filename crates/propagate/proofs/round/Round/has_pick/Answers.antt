@@ -1,4 +1,4 @@
--- What is left to prove of `Round::has_pick`.
+-- Answers to the goals that the check of `Round::has_pick` leaves open.
 use Rattle.std.proofs.Common.{◌≡◌, ℕ, Bool, false, not, ◌&&◌, Option, is_some, ap, sym, ◌∙◌}
 use Rattle.round_spec.specs.Rounds.{is_finished}
 use Rattle.round_spec.specs.Choice.{choice_by}

@@ -1,4 +1,4 @@
--- What is left to prove of `Round::has_same_map`.
+-- Answers to the goals that the check of `Round::has_same_map` leaves open.
 use Rattle.std.proofs.Common.{option_map, ap, sym, subst, ◌∙◌}
 use Rattle.std.specs.Arc.{arc_value}
 use Rattle.elf_spec.specs.Image.{image_pages}

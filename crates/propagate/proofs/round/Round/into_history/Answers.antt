@@ -1,4 +1,4 @@
--- What is left to prove of `Round::into_history`.
+-- Answers to the goals that the check of `Round::into_history` leaves open.
 use Rattle.std.proofs.Common.{◌≡◌, true, is_some, sym, ap, subst, ◌∙◌}
 use Rattle.history_spec.specs.History.{History, is_coherent, IsMapped}
 use Rattle.round_spec.specs.Rounds.{history_of}

@@ -1,4 +1,4 @@
--- What is left to prove of `Round::is_due_at`.
+-- Answers to the goals that the check of `Round::is_due_at` leaves open.
 use Rattle.std.proofs.Common.{◌≡◌, ℕ, List, length, ap, sym, subst, ◌∙◌, arith}
 use Rattle.std.specs.Bool.{Decides}
 use Rattle.history_spec.specs.Facts.{Fact}

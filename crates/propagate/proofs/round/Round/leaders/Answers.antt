@@ -1,4 +1,4 @@
--- What is left to prove of `Round::leaders`.
+-- Answers to the goals that the check of `Round::leaders` leaves open.
 use Rattle.std.proofs.Common.{length, sym, ◌∙◌}
 use Rattle.propagate.proofs.Choosing.{leaders-first}
 use Rattle.propagate.proofs.round.Round.leaders.Goals as goal

@@ -1,4 +1,4 @@
--- What is left to prove of `Round::new`.
+-- Answers to the goals that the check of `Round::new` leaves open.
 use Rattle.std.proofs.Common.{◌≡◌, Bool, true, false, not, option_map, refl, subst}
 use Rattle.std.specs.Arc.{arc_value}
 use Rattle.propagate.specs.Consistency.{IsFound}

@@ -1,4 +1,4 @@
--- The history that is looked in keeps its records in its own map.
+-- The history that is searched keeps its records in its own map.
 use Rattle.std.proofs.Common.{◌≡◌, ◌∙◌, Some, option_map, ap, sym, subst}
 use Rattle.std.specs.Arc.{arc_value}
 use Rattle.history_spec.specs.History.{IsMapped}

@@ -1,4 +1,4 @@
--- What is left to prove of `Round::pick`.
+-- Answers to the goals that the check of `Round::pick` leaves open.
 use Rattle.std.proofs.Common.{true, false, sym, subst, ◌∙◌}
 use Rattle.machine_spec.specs.Setup.{IsSetup}
 use Rattle.round_spec.proofs.Replay.{chosen-place}
@@ -40,7 +40,7 @@ returns-in-Some-2-clause-stopped c = λ stopped. returns-in-Some-2-clause-pick c
 pub returns-in-None-clause-stopped : goal.returns-in-None-clause-stopped
 returns-in-None-clause-stopped c = λ stopped. returns-in-None-clause-pick c ∙ pick-stopped c.args.self.now stopped
 
--- what is chosen while a history is replayed comes next there
+-- the step that is chosen while a history is replayed comes next there
 
 pub returns-in-Some-clause-spares : goal.returns-in-Some-clause-spares
 returns-in-Some-clause-spares c = λ h coherent replays.

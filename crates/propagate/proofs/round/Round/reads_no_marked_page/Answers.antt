@@ -1,4 +1,4 @@
--- What is left to prove of `Round::reads_no_marked_page`.
+-- Answers to the goals that the check of `Round::reads_no_marked_page` leaves open.
 use Rattle.std.proofs.Common.{◌≡◌, Bool, List, length, ap, sym, subst, ◌∙◌}
 use Rattle.std.proofs.lemmas.Bool.{eqb-true}
 use Rattle.round_spec.specs.Rounds.{RoundState}

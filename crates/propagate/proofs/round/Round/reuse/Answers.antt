@@ -1,4 +1,4 @@
--- What is left to prove of `Round::reuse`.
+-- Answers to the goals that the check of `Round::reuse` leaves open.
 use Rattle.std.proofs.Common.{◌≡◌, ◌<◌, ◌+◌, ℕ, length, eqb, Bool, true, cond, Option, Some, None, Box, Vec, is_none, is_some, option_map, refl, ap, sym, subst, ◌∙◌, arith}
 use Rattle.std.proofs.lemmas.Bool.{and_parts}
 use Rattle.std.specs.Arc.{arc_value}

@@ -1,4 +1,4 @@
--- What is left to prove of `Round::stop`.
+-- Answers to the goals that the check of `Round::stop` leaves open.
 use Rattle.std.proofs.Common.{ap, sym, ◌∙◌}
 use Rattle.round_spec.specs.Rounds.{with_stop}
 use Rattle.round_spec.proofs.Conditions.{happens-stop}

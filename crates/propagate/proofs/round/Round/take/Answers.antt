@@ -1,4 +1,4 @@
--- What is left to prove of `Round::take`.
+-- Answers to the goals that the check of `Round::take` leaves open.
 use Rattle.std.proofs.Common.{◌≡◌, true, length, set, option_map, refl, sym, subst, ◌∙◌, arith}
 use Rattle.std.proofs.lemmas.Grind.{common_steps}
 use Rattle.std.specs.Arc.{arc_value}

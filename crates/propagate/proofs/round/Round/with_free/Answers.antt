@@ -1,4 +1,4 @@
--- What is left to prove of `Round::with_free`.
+-- Answers to the goals that the check of `Round::with_free` leaves open.
 use Rattle.std.proofs.Common.{Some, ap, sym, ◌∙◌}
 use Rattle.propagate.specs.declared.picking.Candidate.{Candidate}
 use Rattle.propagate.proofs.Choosing.{first-skip, first-more}

@@ -1,4 +1,4 @@
--- What is left to prove of `Round::with_thread`.
+-- Answers to the goals that the check of `Round::with_thread` leaves open.
 use Rattle.std.proofs.Common.{◌+◌, Some, ap, refl, sym, subst, ◌∙◌}
 use Rattle.machine_spec.specs.Machine.{hart_of}
 use Rattle.round_spec.specs.Due.{place_in}

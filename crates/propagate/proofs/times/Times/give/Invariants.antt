@@ -1,9 +1,9 @@
--- What holds at the loop of `Times::give`.
+-- The invariant of the loop of `Times::give`.
 use Rattle.std.proofs.Common.{◌≡◌, drop}
 use Rattle.propagate.specs.Versions.{with_each}
 use Rattle.propagate.proofs.times.Times.give.Given as goal
 
--- the threads that are left are still to be given a view
+-- the remaining threads are still to be given a view
 abbrev pub invariant-loop-t : goal.invariant-loop-t
 invariant-loop-t l = record {
   viewed : with_each l.self.viewed (drop l.t-index l.threads) l.now ≡ with_each l.initial.self.viewed l.threads l.now;

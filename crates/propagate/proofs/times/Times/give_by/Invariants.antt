@@ -1,10 +1,10 @@
--- What holds at the loop of `Times::give_by`.
+-- The invariant of the loop of `Times::give_by`.
 use Rattle.std.proofs.Common.{◌≡◌, ◌<◌, ◌≤◌, ℕ, length, slice_index}
 use Rattle.guest_call.specs.declared.thread_number.TheConstants.{THREADS}
 use Rattle.propagate.specs.Versions.{viewed_after}
 use Rattle.propagate.proofs.times.Times.give_by.Given as goal
 
--- the threads that were looked at are as the step left them, and the others as before
+-- the times of the threads that were looked at are as after the step, and those of the others as before
 abbrev pub invariant-loop-u : goal.invariant-loop-u
 invariant-loop-u l = record {
   done :

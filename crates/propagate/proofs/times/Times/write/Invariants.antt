@@ -1,10 +1,10 @@
--- What holds at the loop of `Times::write`.
+-- The invariant of the loop of `Times::write`.
 use Rattle.std.proofs.Common.{◌≡◌, drop, map}
 use Rattle.thunk_spec.specs.Delta.{PageDelta}
 use Rattle.propagate.specs.Versions.{with_each}
 use Rattle.propagate.proofs.times.Times.write.Given as goal
 
--- the pages that are left are still to be written
+-- the remaining pages are still to be written
 abbrev pub invariant-loop-page : goal.invariant-loop-page
 invariant-loop-page l = record {
   written :

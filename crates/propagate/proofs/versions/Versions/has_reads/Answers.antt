@@ -1,4 +1,4 @@
--- What is left to prove of `Versions::has_reads`.
+-- Answers to the goals that the check of `Versions::has_reads` leaves open.
 use Rattle.std.proofs.Common.{◌≡◌, ◌+◌, ◌&&◌, suc, Bool, true, cond, drop, ℕ, Some, ap, sym, ◌∙◌, arith}
 use Rattle.std.specs.Prelude.{slice_get}
 use Rattle.std.specs.Str.{bytes_eq}

@@ -1,10 +1,10 @@
--- What holds at the loop of `Versions::has_reads`.
+-- The invariant of the loop of `Versions::has_reads`.
 use Rattle.std.proofs.Common.{◌≡◌, ◌+◌, drop}
 use Rattle.thunk_spec.specs.Reads.{has}
 use Rattle.propagate.specs.Versions.{knows_read, unknown_in}
 use Rattle.propagate.proofs.versions.Versions.has_reads.Given as goal
 
--- the pages so far are in the view, and as many are counted as aren't known of those that are left
+-- the pages so far are in the view, and of the remaining ones those that aren't known are still to be counted
 abbrev pub invariant-loop-k : goal.invariant-loop-k
 invariant-loop-k l = record {
   has : has l.view (drop l.k l.reads) ≡ has l.view l.reads;

@@ -1,4 +1,4 @@
--- What is left to prove of `Versions::reuse`.
+-- Answers to the goals that the check of `Versions::reuse` leaves open.
 use Rattle.std.proofs.Common.{◌≡◌, ◌+◌, suc, List, Option, ℕ, length, ap, sym, refl, ◌∙◌, arith}
 use Rattle.std.proofs.lemmas.Option.{slice_get_read}
 use Rattle.std.proofs.lemmas.List.{with_items_is}

@@ -1,4 +1,4 @@
--- What is left to prove of `Core::apply`.
+-- Answers to the goals that the check of `Core::apply` leaves open.
 use Rattle.std.proofs.Common.{◌≡◌, ℕ, true, ◌+◌, suc, ◌++◌, slice_set, refl, ap, sym, subst, ◌∙◌, arith}
 use Rattle.std.proofs.lemmas.Grind.{common_steps}
 use Rattle.std.specs.Arc.{arc_value}

@@ -1,4 +1,4 @@
--- What is left to prove of `Records::new`.
+-- Answers to the goals that the check of `Records::new` leaves open.
 use Rattle.std.proofs.Common.{ap, sym, subst, map}
 use Rattle.std.specs.Arc.{arc_value}
 use Rattle.release_core.specs.Records.{IsIndexed}

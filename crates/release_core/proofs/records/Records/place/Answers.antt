@@ -1,4 +1,4 @@
--- What is left to prove of `Records::place`.
+-- Answers to the goals that the check of `Records::place` leaves open.
 use Rattle.std.proofs.Common.{◌≡◌, ◌∙◌, ap, List, length, arith, map}
 use Rattle.std.proofs.lemmas.Grind.{common_steps}
 use Rattle.std.specs.Arc.{arc_value}

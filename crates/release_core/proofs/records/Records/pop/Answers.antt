@@ -1,4 +1,4 @@
--- What is left to prove of `Records::pop`.
+-- Answers to the goals that the check of `Records::pop` leaves open.
 use Rattle.std.proofs.Common.{◌≡◌, ◌∷◌, [], ◌++◌, List, subst, map, length, take, ◌-◌, slice_set, slice_index_or, arith}
 use Rattle.std.proofs.lemmas.Grind.{common_steps}
 use Rattle.std.specs.Arc.{arc_value}

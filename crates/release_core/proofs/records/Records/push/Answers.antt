@@ -1,4 +1,4 @@
--- What is left to prove of `Records::push`.
+-- Answers to the goals that the check of `Records::push` leaves open.
 use Rattle.std.proofs.Common.{◌≡◌, ◌∷◌, [], ◌++◌, List, ℕ, ap, sym, subst, map, length, slice_set, slice_index_or, ◌<◌, ◌∙◌, eqb, count_by, arith}
 use Rattle.std.proofs.lemmas.Grind.{common_steps}
 use Rattle.std.specs.Arc.{arc_value}

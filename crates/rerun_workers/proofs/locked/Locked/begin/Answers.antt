@@ -1,4 +1,4 @@
--- What is left to prove of `Locked::begin`.
+-- Answers to the goals that the check of `Locked::begin` leaves open.
 use Rattle.std.proofs.Common.{ap, ◌∙◌}
 use Rattle.machine_spec.specs.Setup.{Setup, first}
 use Rattle.round_spec.specs.declared.events.Event.TheVariants.{Stop}

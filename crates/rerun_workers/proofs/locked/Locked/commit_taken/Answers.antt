@@ -1,4 +1,4 @@
--- What is left to prove of `Locked::commit_taken`.
+-- Answers to the goals that the check of `Locked::commit_taken` leaves open.
 use Rattle.std.proofs.Common.{rules, ap, sym, subst, ◌∙◌, Option}
 use Rattle.std.specs.Arc.{arc_value}
 use Rattle.machine_spec.specs.Setup.{Setup, first}

@@ -1,4 +1,4 @@
--- What is left to prove of `Locked::fail`.
+-- Answers to the goals that the check of `Locked::fail` leaves open.
 use Rattle.std.proofs.Common.{◌∙◌}
 use Rattle.rerun_workers.proofs.Under.{counted_on, watched_on}
 use Rattle.rerun_workers.proofs.Following.{follows-given_up}

@@ -1,4 +1,4 @@
--- What is left to prove of `Locked::new`.
+-- Answers to the goals that the check of `Locked::new` leaves open.
 use Rattle.rerun_workers.proofs.Issued.{issued_opening}
 use Rattle.rerun_workers.proofs.locked.Locked.new.Goals as goal
 

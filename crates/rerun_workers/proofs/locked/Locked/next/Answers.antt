@@ -1,4 +1,4 @@
--- What is left to prove of `Locked::next`.
+-- Answers to the goals that the check of `Locked::next` leaves open.
 use Rattle.std.proofs.Common.{suc, sym, ◌∙◌, arith}
 use Rattle.rerun_workers.proofs.Following.{settled-more}
 use Rattle.rerun_workers.proofs.locked.Locked.next.Goals as goal

@@ -1,9 +1,9 @@
--- What holds at the loop of `Locked::next`.
+-- The invariant of the loop of `Locked::next`.
 use Rattle.std.specs.Prelude.{◌≡◌, ◌+◌, ◌-◌, ◌≤◌, ℕ, length}
 use Rattle.rerun_workers.specs.Locking.{settled, Counts}
 use Rattle.rerun_workers.proofs.locked.Locked.next.Given as goal
 
--- so many records that were picked were reused, each as a step of the worker
+-- this many picked records were reused, each as a step of the worker
 abbrev pub invariant-loop-t : goal.invariant-loop-t
 invariant-loop-t g l =
     ((n : ℕ) × (l.self.round ≡ settled n l.fn.self.round))

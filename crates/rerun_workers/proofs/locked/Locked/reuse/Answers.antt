@@ -1,4 +1,4 @@
--- What is left to prove of `Locked::reuse`.
+-- Answers to the goals that the check of `Locked::reuse` leaves open.
 use Rattle.std.proofs.Common.{rules, ◌∙◌}
 use Rattle.rerun_workers.proofs.Under.{watched_more}
 use Rattle.rerun_workers.proofs.Following.{follows-reuse}

@@ -1,4 +1,4 @@
--- What is left to prove of `Locked::stop`.
+-- Answers to the goals that the check of `Locked::stop` leaves open.
 use Rattle.std.proofs.Common.{◌∙◌}
 use Rattle.rerun_workers.proofs.Under.{counted_on, watched_on}
 use Rattle.rerun_workers.proofs.Following.{follows-stop}

@@ -1,4 +1,4 @@
--- What is left to prove of `register_cause`.
+-- Answers to the goals that the check of `register_cause` leaves open.
 use Rattle.std.proofs.Common.{◌≡◌, None, sym, ◌∙◌}
 use Rattle.round_report.specs.Differences.{numbered, first_difference}
 use Rattle.round_report.proofs.Alike.{same-registers}

@@ -1,4 +1,4 @@
--- What holds at the loop of `go_on`.
+-- The invariant of the loop of `go_on`.
 use Rattle.std.proofs.Common.{◌≡◌, ◌≤◌}
 use Rattle.round_report.specs.Storing.{last_store}
 use Rattle.round_report.proofs.why.storing.go_on.Given as goal

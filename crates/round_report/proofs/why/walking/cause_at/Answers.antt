@@ -1,4 +1,4 @@
--- What is left to prove of `cause_at`.
+-- Answers to the goals that the check of `cause_at` leaves open.
 use Rattle.std.proofs.Common.{◌<◌, ℕ, Some, All, length, subst, ap, sym, ◌∙◌}
 use Rattle.thunk_spec.specs.Reads.{ReadPage}
 use Rattle.thunk_spec.specs.Record.{Record}

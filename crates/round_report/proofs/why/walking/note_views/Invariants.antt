@@ -1,4 +1,4 @@
--- What holds at the loop of `note_views`.
+-- The invariant of the loop of `note_views`.
 use Rattle.std.proofs.Common.{◌≡◌, ◌<◌, ◌≤◌, ◌==◌, ◌&&◌, ◌||◌, not, false, ℕ, if◌then◌else◌, slice_index, slice_index_or}
 use Rattle.machine_spec.specs.Machine.{hart_of, is_ready}
 use Rattle.round_report.proofs.why.walking.note_views.Given as goal

@@ -1,4 +1,4 @@
--- What is left to prove of `page_cause`.
+-- Answers to the goals that the check of `page_cause` leaves open.
 use Rattle.std.proofs.Common.{◌≡◌, ℕ, List, None, length, sym, ap, ◌∙◌, arith}
 use Rattle.memory_spec.specs.Pages.{page_of}
 use Rattle.round_report.specs.Differences.{first_difference}

@@ -1,4 +1,4 @@
--- What is left to prove of `reason_at`.
+-- Answers to the goals that the check of `reason_at` leaves open.
 use Rattle.std.proofs.Common.{◌≡◌, ◌≤◌, ℕ, true, false, not, slice_index, slice_index_or, length, option_map, refl, subst, ap, sym, ◌∙◌, arith}
 use Rattle.machine_spec.specs.Machine.{hart_of}
 use Rattle.round_spec.specs.Marks.{record_for}

@@ -1,4 +1,4 @@
--- What is left to prove of `reasons`.
+-- Answers to the goals that the check of `reasons` leaves open.
 use Rattle.std.proofs.Common.{ap, subst, sym, ◌∙◌}
 use Rattle.machine_spec.specs.Setup.{first}
 use Rattle.machine_spec.specs.Whole.{IsWhole}

@@ -1,4 +1,4 @@
--- What is left to prove of `reasons_from`.
+-- Answers to the goals that the check of `reasons_from` leaves open.
 use Rattle.std.proofs.Common.{◌≡◌, length, map, ap, ◌∙◌, arith}
 use Rattle.std.proofs.lemmas.List.{get_or-replicate}
 use Rattle.machine_spec.specs.Setup.{first}

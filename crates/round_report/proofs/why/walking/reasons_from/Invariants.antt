@@ -1,4 +1,4 @@
--- What holds at the loop of `reasons_from`.
+-- The invariant of the loop of `reasons_from`.
 use Rattle.std.proofs.Common.{◌≡◌, map}
 use Rattle.machine_spec.specs.Whole.{IsWhole}
 use Rattle.round_report.specs.declared.why.reason.Reason.{Reason}
@@ -8,7 +8,7 @@ use Rattle.round_report.specs.Searching.{AreOf}
 use Rattle.round_report.proofs.ReasonsSoFar.{reported_so_far, executed_so_far}
 use Rattle.round_report.proofs.why.walking.reasons_from.Given as goal
 
--- the machine is that before the next entry, and the reasons so far are told
+-- the machine is that before the next entry, and the reasons so far are reported
 abbrev pub invariant-loop-step : goal.invariant-loop-step
 invariant-loop-step l = record {
   pages : AreOf l.round l.pages;

@@ -1,4 +1,4 @@
--- What is left to prove of `record_of`.
+-- Answers to the goals that the check of `record_of` leaves open.
 use Rattle.std.proofs.Common.{ap, sym, ◌∙◌, option_map}
 use Rattle.std.specs.Arc.{arc_value}
 use Rattle.round_report.proofs.Finding.{if_some, past-mapped}

@@ -1,4 +1,4 @@
--- What is left to prove of `walk`.
+-- Answers to the goals that the check of `walk` leaves open.
 use Rattle.std.proofs.Common.{◌+◌, ◌==◌, ◌&&◌, ◌||◌, not, ℕ, Bool, false, if◌then◌else◌, List, slice_index, slice_index_or, add-one, Some, ap, sym, subst, ◌∙◌}
 use Rattle.report_spec.specs.declared.Entry.{Entry}
 use Rattle.machine_spec.specs.Machine.{hart_of, is_ready}

@@ -1,4 +1,4 @@
--- What is left to prove of `text`.
+-- Answers to the goals that the check of `text` leaves open.
 use Rattle.std.proofs.Common.{◌≡◌, ◌∷◌, [], ◌++◌, List, length, flat_map, ap, ◌∙◌, append_assoc, arith}
 use Rattle.std.specs.Prelude.{codes, decimal}
 use Rattle.std.proofs.lemmas.List.{take_all}

@@ -1,4 +1,4 @@
--- What holds at the loop of `text`.
+-- The invariant of the loop of `text`.
 use Rattle.std.proofs.Common.{◌≡◌, ◌∷◌, [], ◌++◌, take, length, flat_map}
 use Rattle.std.specs.Prelude.{codes, decimal}
 use Rattle.round_report.specs.WhyText.{reason_line}

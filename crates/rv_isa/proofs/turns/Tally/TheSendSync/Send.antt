@@ -1,4 +1,4 @@
--- A tally owns nothing, so it may go to another thread.
+-- A tally owns nothing, so it may be sent to another thread.
 use denote.Param.Send.{IsSend, owning_send, sendable}
 use Rattle.rv_isa.specs.contracts.turns.Tally.{the_row, the_type}
 

@@ -1,4 +1,4 @@
--- An empty body. The borrow is opened, and closed at the number that is more by the other one.
+-- An empty body. The borrow is opened, and closed at the sum of both numbers.
 use Rattle.std.proofs.Common.{List, [], ◌∷◌, ◌+◌, refl}
 use mir.Syntax.{named}
 use mir.Val.{Val, vunit, vptr}

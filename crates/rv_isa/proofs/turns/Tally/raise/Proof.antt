@@ -1,4 +1,4 @@
--- An empty body. The borrow is opened, and closed at the number that is so many more.
+-- An empty body. The borrow is opened, and closed at the raised number.
 use Rattle.std.proofs.Common.{ℕ, List, [], ◌∷◌, ◌+◌, refl, w32}
 use mir.Syntax.{named}
 use mir.Val.{Val, vunit, vptr, vint}

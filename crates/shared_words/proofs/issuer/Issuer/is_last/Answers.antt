@@ -1,4 +1,4 @@
--- Answers to the goals that the check leaves of `is_last`.
+-- Answers to the goals that the check of `is_last` leaves open.
 use Rattle.std.proofs.Common.{◌≡◌, ◌∙◌, ap, sym, subst, slice_get, true, is_some, Some, None, List, Option, refl}
 use Rattle.std.proofs.lemmas.Bool.{eqb-true}
 use Rattle.std.proofs.lemmas.Option.{slice_get-get_or}

@@ -1,4 +1,4 @@
--- Answers to the goals that the check leaves of `issue`.
+-- Answers to the goals that the check of `issue` leaves open.
 use Rattle.std.proofs.Common.{◌∙◌, ap, subst, length, set, map, sym}
 use Rattle.shared_words.specs.TicketViews.{AreBelow, job_at, job_of}
 use Rattle.shared_words.proofs.Issuing.{issued_below, issued_jobs}

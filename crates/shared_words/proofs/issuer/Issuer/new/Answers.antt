@@ -1,4 +1,4 @@
--- Answers to the goals that the check leaves of `new`.
+-- Answers to the goals that the check of `new` leaves open.
 use Rattle.std.proofs.Common.{◌∙◌, ap, sym, subst, length, map}
 use Rattle.shared_words.specs.TicketViews.{AreBelow, job_at}
 use Rattle.shared_words.proofs.Issuing.{none_below, no_jobs}

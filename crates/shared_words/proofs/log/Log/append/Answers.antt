@@ -1,4 +1,4 @@
--- Answers to the goals that the check leaves of `append`.
+-- Answers to the goals that the check of `append` leaves open.
 use Rattle.std.proofs.Common.{◌≡◌, sym, ◌∙◌, ap, length, ◌++◌, ◌∷◌, []}
 use Rattle.shared_words.proofs.Appending.{appends, appended}
 use Rattle.shared_words.proofs.Issuing.{at_end}

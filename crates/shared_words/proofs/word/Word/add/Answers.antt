@@ -1,4 +1,4 @@
--- To add one keeps the rule of the word.
+-- Adding one keeps the rule of the word.
 use Rattle.std.proofs.Common.{rules}
 use mathlib.Core.Option.{none}
 use Rattle.atomic_table.specs.Table.{step}

@@ -1,4 +1,4 @@
--- To load keeps the rule of the word, and tells what it is.
+-- Loading keeps the rule of the word, and returns its value.
 use Rattle.std.proofs.Common.{rules}
 use mathlib.Core.Option.{none}
 use Rattle.atomic_table.specs.Table.{step}

@@ -1,4 +1,4 @@
--- Who leaves the condition, and the table without them.
+-- The threads that leave the condition, and the table without them.
 use Rattle.std.proofs.Common.{rules}
 use Rattle.guest_call.specs.Conditions.{unawaited, signal_leaving}
 use Rattle.guest_call.proofs.Rows.{signal_leaves}

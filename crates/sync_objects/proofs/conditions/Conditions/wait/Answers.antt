@@ -1,4 +1,4 @@
--- The condition has room for who waits for none, and the table after it has come.
+-- The condition has room for a thread that waits for none, and the table after it has come.
 use Rattle.guest_call.specs.Conditions.{condition_queue}
 use Rattle.sync_objects.proofs.TableKept.{queue-room}
 use Rattle.sync_objects.proofs.TableOfConditions.{wait_kept, wait_at-done}

@@ -1,4 +1,4 @@
--- Who came so far and who is still to come make up the whole.
+-- The threads that came so far and those still to come are all.
 use Rattle.std.proofs.Common.{◌≡◌, ◌+◌, ◌≤◌, ◌++◌, length, drop}
 use Rattle.guest_call.specs.Conditions.{admit_each}
 use Rattle.sync_objects.proofs.mutexes.Cell.admit_each.Given as goal

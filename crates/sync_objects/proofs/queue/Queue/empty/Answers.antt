@@ -1,4 +1,4 @@
--- Nobody is in the new queue.
+-- No thread is in the new queue.
 use Rattle.std.proofs.Common.{subst, sym}
 use Rattle.sync_objects.specs.Queue.{AreThreads}
 use Rattle.sync_objects.proofs.QueueThreads.{nobody_are_threads}

@@ -1,4 +1,4 @@
--- Who stays are threads.
+-- The threads that stay are threads.
 use Rattle.std.proofs.Common.{◌≡◌, rules}
 use Rattle.sync_objects.specs.Queue.{popped}
 use Rattle.sync_objects.proofs.QueueThreads.{popped_are_threads}

@@ -1,4 +1,4 @@
--- Who comes is a thread.
+-- The thread that comes is a thread.
 use Rattle.std.proofs.Common.{subst, sym}
 use Rattle.sync_objects.specs.Queue.{AreThreads}
 use Rattle.sync_objects.proofs.QueueThreads.{pushed_are_threads}

@@ -1,4 +1,4 @@
--- Who was admitted so far and who is still to be admitted make up the whole.
+-- The threads that were admitted so far and those still to be admitted are all.
 use Rattle.std.proofs.Common.{◌≡◌, ◌+◌, ◌≤◌, ◌++◌, length}
 use Rattle.guest_call.specs.RwLocks.{first_readers, from_first_writer, joined_by_each}
 use Rattle.sync_objects.proofs.rwlocks.Cell.admit_readers.Given as goal

@@ -1,4 +1,4 @@
--- The row at the object, where the argument is in range, and the table after it.
+-- The row at the object, if the argument is in range, and the table after it.
 use Rattle.std.proofs.Common.{rules, arith, ◌≡◌, true, nat_le}
 use Rattle.std.proofs.lemmas.Bool.Decides.{nat_tests}
 use Rattle.guest_call.specs.Semaphores.{unposted, semaphore_queue, sem_init_row, largest_value}

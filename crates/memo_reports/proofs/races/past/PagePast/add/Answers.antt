@@ -1,4 +1,4 @@
--- One access more is among those of its thread.
+-- One more access is among those of its thread.
 use Rattle.std.proofs.Common.{ap, sym, ◌∙◌, subst}
 use Rattle.memo_reports.specs.declared.races.past.ThreadPast.{ThreadPast}
 use Rattle.memo_reports.specs.Past.{IsThreadPast}

@@ -1,4 +1,4 @@
--- One access more of a thread, behind the others.
+-- One more access of a thread, after the others.
 use Rattle.std.proofs.Common.{◌≡◌, ◌<◌, ◌-◌, ◌++◌, append-nil, Bool, true, false, cond, List, [], ◌∷◌, All, length, ap, sym, ◌∙◌, subst, arith}
 use Rattle.std.specs.List.{filter}
 use Rattle.std.specs.List.Sorted.{IsNonDecreasingBy}
@@ -11,7 +11,7 @@ use Rattle.memo_reports.specs.Past.{IsThreadPast, IsAfter}
 use Rattle.memo_reports.proofs.races.past.ThreadPast.add.Goals as goal
 use Rattle.memo_reports.proofs.races.past.ThreadPast.add.Goals.{then-access+in_ok-push, else-access}
 
--- the accesses of a thread with one more
+-- the accesses of a thread, with one more
 past-next :
     (p q : ThreadPast) (a : Access)
     → IsThreadPast p → a.thread ≡ p.thread → All (IsAfter a) p.all.items

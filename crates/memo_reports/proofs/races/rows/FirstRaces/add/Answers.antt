@@ -1,4 +1,4 @@
--- The races of one thread's accesses more are in their rows.
+-- The races with one more thread's accesses are in their rows.
 use Rattle.std.proofs.Common.{◌++◌, [], List, length, take, get_or, ap, sym, ◌∙◌, subst, arith}
 use Rattle.std.specs.List.{filter, flat_map, count_by}
 use Rattle.std.specs.List.Sorted.{IsNonDecreasingBy}

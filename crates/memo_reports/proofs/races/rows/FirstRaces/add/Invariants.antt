@@ -1,4 +1,4 @@
--- The races of the first threads' accesses are in their rows.
+-- The races with the first threads' accesses are in their rows.
 use Rattle.std.proofs.Common.{◌≡◌, ◌<◌, ◌≤◌, ◌+◌, ℕ, ◌++◌, [], length, take, get_or}
 use Rattle.std.specs.List.{filter, flat_map, count_by}
 use Rattle.memo_reports.specs.declared.races.past.ThreadPast.{ThreadPast}

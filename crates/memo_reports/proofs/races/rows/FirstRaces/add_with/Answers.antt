@@ -1,4 +1,4 @@
--- The race of one access more is in its row.
+-- The race with one more access is in its row.
 use Rattle.std.proofs.Common.{◌≡◌, ◌<◌, ◌+◌, ℕ, false, ◌++◌, [], ◌∷◌, List, length, get_or, set, ap, sym, ◌∙◌, arith}
 use Rattle.std.specs.List.{flat_map}
 use Rattle.std.proofs.lemmas.List.{get_or_default, length-set}
@@ -9,7 +9,7 @@ use Rattle.memo_reports.proofs.Filling.{races-front, row-more}
 use Rattle.memo_reports.proofs.Tally.{rows-pushed}
 use Rattle.memo_reports.proofs.races.rows.FirstRaces.add_with.Goals as goal
 
--- what stands for an access past the end
+-- the stand-in for an access past the end
 abbrev none : Access
 none = record { place = 0; thread = 0; number = 0; writes = false }
 

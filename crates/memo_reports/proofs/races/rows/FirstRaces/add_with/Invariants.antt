@@ -1,4 +1,4 @@
--- The races of the first accesses are in their rows.
+-- The races with the first accesses are in their rows.
 use Rattle.std.proofs.Common.{◌≡◌, ◌<◌, ◌+◌, ℕ, ◌++◌, [], length, take, get_or}
 use Rattle.memo_reports.specs.Rows.{IsCounted, races_in}
 use Rattle.memo_reports.proofs.races.rows.FirstRaces.add_with.Given as goal

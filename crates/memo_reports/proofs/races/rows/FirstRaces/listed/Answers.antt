@@ -1,4 +1,4 @@
--- The races of one row more, as far as there is room.
+-- The races of one more row, as far as there is room.
 use Rattle.std.proofs.Common.{◌≡◌, ◌-◌, ℕ, ◌++◌, List, length, take, min, ap, ap₂, sym, ◌∙◌, arith}
 use Rattle.std.specs.List.{flat_map}
 use Rattle.std.proofs.lemmas.List.{length-take, take_all, take_min}

@@ -1,4 +1,4 @@
--- The races of the first rows, as many as are wanted.
+-- The races of the first rows, as many as are requested.
 use Rattle.std.proofs.Common.{◌≡◌, List, take}
 use Rattle.std.specs.List.{flat_map}
 use Rattle.round_spec.specs.declared.Race.{Race}

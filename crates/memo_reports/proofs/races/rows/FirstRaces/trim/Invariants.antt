@@ -1,4 +1,4 @@
--- The first rows are left, and have enough.
+-- The first rows remain, and have enough races.
 use Rattle.std.proofs.Common.{◌≡◌, ◌≤◌, ◌⊎◌, length, take}
 use Rattle.memo_reports.specs.Rows.{IsCounted}
 use Rattle.memo_reports.proofs.races.rows.FirstRaces.trim.Given as goal

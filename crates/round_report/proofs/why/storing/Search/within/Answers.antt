@@ -1,4 +1,4 @@
--- What is left to prove of `within`.
+-- Answers to the goals that the check of `within` leaves open.
 use Rattle.std.proofs.Common.{sym, ◌∙◌, arith}
 use Rattle.round_report.proofs.Searches.{none-within, some-within}
 use Rattle.round_report.proofs.why.storing.Search.within.Goals as goal
