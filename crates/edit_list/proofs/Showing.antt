@@ -1,55 +1,11 @@
 -- What a buffer shows of an input, byte by byte.
-use Rattle.std.proofs.Common.{◌≡◌, ◌≤◌, ◌<◌, ℕ, ◌+◌, ◌-◌, min, List, ◌++◌, length, take, drop, replicate, get_or, sym, ◌∙◌, arith, inl, inr, ◌⊎◌}
+use Rattle.std.proofs.Common.{◌≡◌, ◌≤◌, ◌<◌, ℕ, ◌+◌, ◌-◌, min, List, ◌++◌, length, take, replicate, get_or, sym, ◌∙◌, arith, inl, inr, ◌⊎◌}
 use Rattle.std.proofs.lemmas.Grind.{common_steps}
 use Rattle.std.proofs.lemmas.List.{ext_get_or}
-use Rattle.edit_spec.specs.Edit.{Size}
-use Rattle.edit_spec.specs.Editing.{edited_once}
 use Rattle.edit_list.specs.Showing.{Shows}
-
--- a byte among the written ones, and one beside them
-at-inside :
-    (offset : ℕ) (bytes input : List ℕ) (p : ℕ) → offset + length bytes ≤ length input → offset ≤ p
-    → p < offset + length bytes
-    → get_or (take offset input ++ bytes ++ drop (offset + length bytes) input) p 0 ≡ get_or bytes (p - offset) 0
-at-inside offset bytes input p fits low high = grind (arith, common_steps)
-
-at-before :
-    (offset : ℕ) (bytes input : List ℕ) (p : ℕ) → offset + length bytes ≤ length input → p < offset
-    → get_or (take offset input ++ bytes ++ drop (offset + length bytes) input) p 0 ≡ get_or input p 0
-at-before offset bytes input p fits low = grind (arith, common_steps)
-
-at-behind :
-    (offset : ℕ) (bytes input : List ℕ) (p : ℕ) → offset + length bytes ≤ length input → offset + length bytes ≤ p
-    → get_or (take offset input ++ bytes ++ drop (offset + length bytes) input) p 0 ≡ get_or input p 0
-at-behind offset bytes input p fits high = grind (arith, common_steps)
-
--- a byte of an input whose length was changed
-at-cut :
-    (size : ℕ) (input : List ℕ) (p : ℕ) → p < size
-    → get_or (take size input ++ replicate (size - length input) 0) p 0 ≡ get_or input p 0
-at-cut size input p under = grind (arith, common_steps)
 
 at-end : (input : List ℕ) (p : ℕ) → length input ≤ p → get_or input p 0 ≡ 0
 at-end input p past = grind (arith, common_steps)
-
--- a change of length keeps what is shown
-pub shows-size :
-    (buffer input : List ℕ) (size after : ℕ) → Shows buffer input (min (length input) (min after size))
-    → Shows buffer (edited_once (Size size) input) (min size after)
-shows-size buffer input size after shows p = (low, high)
-  where
-    low : p < min size after → get_or buffer p 0 ≡ get_or (take size input ++ replicate (size - length input) 0) p 0
-    low under =
-        elim (nat_split p (length input)) [
-          | inl in_it ↦ (shows p).0 (omega arith) ∙ sym (at-cut size input p (omega arith))
-          | inr past ↦ (shows p).1 (omega arith) ∙ sym (at-end input p past) ∙ sym (at-cut size input p (omega arith))
-        ]
-      where
-        nat_split : (a b : ℕ) → (a < b) ⊎ (b ≤ a)
-        nat_split a b = grind arith
-
-    high : min size after ≤ p → get_or buffer p 0 ≡ 0
-    high over = (shows p).1 (omega arith)
 
 -- two lists with the same bytes are the same
 pub shown-whole :
@@ -84,14 +40,3 @@ shows-cleared buffer input kept fits shows p = (low, high)
           | inl under ↦ at-front under ∙ (shows p).0 (omega arith) ∙ at-end input p (omega arith)
           | inr past ↦ at-back past
         ]
-
--- a buffer whose length was changed shows the input
-pub shows-resized :
-    (input : List ℕ) (last : ℕ) → Shows (take last input ++ replicate (last - length input) 0) input last
-shows-resized input last p = (low, high)
-  where
-    low : p < last → get_or (take last input ++ replicate (last - length input) 0) p 0 ≡ get_or input p 0
-    low under = at-cut last input p under
-
-    high : last ≤ p → get_or (take last input ++ replicate (last - length input) 0) p 0 ≡ 0
-    high over = grind (arith, common_steps)

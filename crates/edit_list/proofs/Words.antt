@@ -66,21 +66,6 @@ pub set_line : (rest : List ℕ) → IsEdit (codes "set " ++ rest)
 set_line rest (Set offset bytes, s) = (offset, bytes, s.2, s.0, s.1, s.3, cc)
 set_line rest (Size size, s) = absurd (other_word (codes "set " ++ rest) refl (sym s.1))
 
--- what a line that begins with `size ` encodes
-pub size_line :
-    (rest : List ℕ) → IsEdit (codes "size " ++ rest)
-    → (size : ℕ) × (size < number_limit) × (rest ≡ decimal size)
-size_line rest (Set offset bytes, s) = absurd (other_word (codes "size " ++ rest) (sym s.4) refl)
-size_line rest (Size size, s) = (size, s.0, cc)
-
--- a line begins with one of the two words
-pub no_other_line :
-    (text : List ℕ) → ((rest : List ℕ) → text ≢ codes "set " ++ rest) → ((rest : List ℕ) → text ≢ codes "size " ++ rest)
-    → IsEdit text
-    → ⊥
-no_other_line text no_set no_size (Set offset bytes, s) = no_set (decimal offset ++ 32 ∷ s.2) s.4
-no_other_line text no_set no_size (Size size, s) = no_size (decimal size) s.1
-
 -- why a line that begins with `set ` gave no edit if its digits gave no bytes
 pub no_set_without_bytes : (rest digits : List ℕ) (answer : LineFault) → WhyNoBytes digits answer
     → (IsEdit (codes "set " ++ rest) → (bytes : List ℕ) × (0 < length bytes) × EncodeBytes digits bytes)

@@ -1,9 +1,9 @@
 -- What segments have on a page, byte by byte.
-use Rattle.std.proofs.Common.{◌≡◌, ◌≤◌, ◌<◌, ◌+◌, ◌-◌, ◌*◌, ◌/◌, ℕ, min, Bool, true, false, cond, nat_le, nat_lt, List, [], ◌∷◌, ◌++◌, Some, All, Bor, length, get_or, map, reverse, filter, find, replicate, inl, inr, refl, sym, ap, ◌∙◌, arith}
+use Rattle.std.proofs.Common.{◌≡◌, ◌≤◌, ◌<◌, ◌+◌, ◌-◌, ◌*◌, ◌/◌, ℕ, min, Bool, true, false, cond, nat_le, nat_lt, List, [], ◌∷◌, ◌++◌, Some, All, length, get_or, map, filter, find, replicate, inl, inr, refl, sym, ap, ◌∙◌, arith}
 use Rattle.std.specs.List.{range_with_len, between}
 use borrow.Rule.Slice.PartMut.{mid_of, put_mid}
 use Rattle.std.proofs.lemmas.Bool.{cases_lt, cases_Bool, le-leb, leb-true, ltb-true, lt-ltb, le-ltb, and_from, and_parts, and_left, and_right, lt-leb, cond-true, cond-false}
-use Rattle.std.proofs.lemmas.List.{ext_get_or, get_or_past, get_or-replicate, length-replicate, map-append, reverse-append}
+use Rattle.std.proofs.lemmas.List.{ext_get_or, get_or_past, get_or-replicate, length-replicate}
 use Rattle.std.proofs.lemmas.List.Edits.{length-between, get_or-between}
 use Rattle.std.proofs.lemmas.List.Elements.{All-head, All-tail}
 use Rattle.std.proofs.lemmas.Grind.{common_steps}
@@ -298,20 +298,3 @@ chosen bytes header headers address byte is =
       | inl has ↦ rw has refl
       | inr not ↦ rw not is
     ]
-
--- one more segment is written into a page
-pub written_more :
-    (bytes page after : List ℕ) (so_far : List (Bor Header)) (header : Bor Header) (number k : ℕ)
-    → get_or after k 0
-    ≡ cond (has_address (header_of header.now) (4096 * number + k))
-    (segment_byte bytes (Some (header_of header.now)) (4096 * number + k)) (get_or page k 0)
-    → get_or page k 0 ≡ first_byte bytes (reverse (map (λ (y : Bor Header). y.now) so_far)) (4096 * number + k)
-    → get_or after k 0
-    ≡ first_byte bytes (reverse (map (λ (y : Bor Header). y.now) (so_far ++ header ∷ []))) (4096 * number + k)
-written_more bytes page after so_far header number k is before =
-    let address : ℕ = 4096 * number + k in
-    let now : Bor Header → Header = λ y. y.now in
-    let turned : reverse (map now (so_far ++ header ∷ [])) ≡ header.now ∷ reverse (map now so_far) =
-    ap reverse (map-append now so_far (header ∷ [])) ∙ reverse-append (map now so_far) (header.now ∷ []) in
-    is ∙ chosen bytes header.now (reverse (map now so_far)) address (get_or page k 0) before
-    ∙ ap (λ headers. first_byte bytes headers address) (sym turned)

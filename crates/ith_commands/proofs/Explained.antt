@@ -4,7 +4,6 @@ use Rattle.std.proofs.lemmas.List.{append-nil}
 use Rattle.machine_spec.specs.Setup.{Setup}
 use Rattle.history_spec.specs.History.{History, IsSound}
 use Rattle.round_spec.specs.Rounds.{RoundState}
-use Rattle.round_spec.specs.Alone.{lone_round}
 use Rattle.rerun_spec.specs.Inputs.{AreRerunInputs}
 use Rattle.rerun_spec.specs.Rounds.{nothing_asked, Beginning, limits_of, after_memo, with_input}
 use Rattle.propagate.proofs.Executing.{alone-setup, alone-past}
@@ -22,7 +21,7 @@ use Rattle.ith_commands.specs.Explaining.{explained_round, why_of}
 use Rattle.ith_commands.specs.Ends.{Prints, HasReasons, text_of_reasons, IsExplained, EndsEarly, ExplainEnds, Ends}
 use Rattle.ith_commands.specs.Counting.{ExplainSpends}
 use Rattle.ith_commands.specs.Refusals.{WhyUnprinted}
-use Rattle.ith_commands.specs.Playing.{plan_said, IsPrepared, IsWithNext, IsFirstRound, GivesReasons, ReportsReasons}
+use Rattle.ith_commands.specs.Playing.{plan_said, IsPrepared, IsFirstRound, GivesReasons, ReportsReasons}
 use Rattle.ith_commands.specs.declared.plan.Plan.{Plan as Planned}
 use Rattle.std.specs.Prelude.{Result, Ok, Err, IfOk}
 use Rattle.ith_commands.proofs.Worlds.{stays_same}
@@ -49,18 +48,6 @@ pub explain_prepared :
 explain_prepared line a b (Ok p) ready =
     record { is = ready.is; playable = ready.playable; encoded = ready.encoded; reads = ready.reads }
 explain_prepared line a b (Err s) ready = ready
-
--- a round on the next input is the first of its plan
-pub first_made :
-    (p : Plan) (later : List (List ℕ)) (s : Setup) (w : RoundState)
-    → IsWithNext p.beginning.setup p.inputs later s → w ≡ lone_round s p.beginning.past → IsFirstRound p w
-first_made p later s w on made =
-    record {
-      input = on.input;
-      later = later;
-      first = on.taken;
-      is = made ∙ ap (λ (t : Setup). lone_round t p.beginning.past) on.is;
-    }
 
 -- the reasons of a round that one worker made are those of the round that is explained
 pub reasons_reported :

@@ -1,10 +1,9 @@
 -- How a command line ends, from how its rounds did.
-use Rattle.std.proofs.Common.{◌≡◌, Bool, ℕ, true, false, List, ◌++◌, Option, Some, None, length, take, refl, sym, ap, ◌∙◌, inl, inr, subst}
+use Rattle.std.proofs.Common.{◌≡◌, Bool, ℕ, true, false, List, ◌++◌, Option, Some, length, take, sym, ap, ◌∙◌, inl, inr, subst}
 use Rattle.std.specs.Prelude.{Result, Ok, Err, IfOk, IfErr}
 use Rattle.std.specs.List.{concat}
 use Rattle.std.specs.Io.KnownBytes.{Appends}
 use Rattle.memo_spec.specs.Encoding.{memo}
-use Rattle.history_spec.specs.History.{History}
 use Rattle.rerun_spec.specs.Rounds.{Found}
 use Rattle.ith_host.specs.World.{World, NoneFell, Stays, AsksNothing}
 use Rattle.ith_words.specs.Words.{Text, Line}
@@ -12,10 +11,10 @@ use Rattle.ith_commands.specs.declared.status.Status.{Status}
 use Rattle.ith_commands.specs.declared.status.Status.TheVariants as status
 use Rattle.ith_commands.specs.Statuses.{status_in}
 use Rattle.ith_commands.specs.Contents.{Plan, workers_of}
-use Rattle.ith_commands.specs.Ends.{HasRounds, texts_of, left_of, new_memo_of, Prints, PrintsAndKeeps, IsKeptWithin, IsDone, RoundsEnd}
+use Rattle.ith_commands.specs.Ends.{HasRounds, texts_of, left_of, new_memo_of, Prints, PrintsAndKeeps, IsDone, RoundsEnd}
 use Rattle.ith_commands.specs.Counting.{Work, SpendsTurns, RoundsSpend}
-use Rattle.ith_commands.specs.Refusals.{Keeps, WhyCutShort, WhyUnkept, WhyUndone}
-use Rattle.ith_commands.specs.Playing.{IsPrepared, AreFound, IsPlayed, IsCarriedOut}
+use Rattle.ith_commands.specs.Refusals.{WhyCutShort, WhyUnkept, WhyUndone}
+use Rattle.ith_commands.specs.Playing.{IsPrepared, AreFound, IsCarriedOut}
 use Rattle.ith_commands.proofs.Worlds.{rose_before}
 use Rattle.ith_commands.proofs.Printing.{prints_after, prints_then}
 use Rattle.ith_top.proofs.Promises.{promised_of, each_kept}
@@ -37,30 +36,6 @@ rounds_in line a b p found ready are =
       kept = each_kept (workers_of line) p found ready.playable ready.encoded are;
     }
 
--- a file was written after all was printed
-pub printed_and_kept :
-    (name : Text) (content : List ℕ) (a b c : World) (bytes : List ℕ)
-    → Prints a b bytes → Keeps name content b c → PrintsAndKeeps (Some name) content a c bytes
-printed_and_kept name content a b c bytes prints keeps =
-    record {
-      is_stated = keeps.is_stated ∙ prints.is_stated;
-      printed = subst (λ (reported : Option (List ℕ)). Appends a.printed reported bytes) (sym keeps.printed) prints.printed;
-      written = keeps.written;
-      others = λ other away. keeps.others other away
-          ∙ ap (λ (files : Text → Option (List ℕ)). files other) prints.files;
-    }
-
--- and if no file is to be written
-pub printed_alone : (content : List ℕ) (a b : World) (bytes : List ℕ) → Prints a b bytes
-    → PrintsAndKeeps None content a b bytes
-printed_alone content a b bytes prints =
-    record {
-      is_stated = prints.is_stated;
-      printed = prints.printed;
-      written = tt;
-      others = λ other away. ap (λ (files : Text → Option (List ℕ)). files other) prints.files;
-    }
-
 -- printing and writing after a change that keeps files and printed bytes
 kept_after : (name : Option Text) (content : List ℕ) (a b c : World) (bytes : List ℕ) → Stays a b
     → PrintsAndKeeps name content b c bytes → PrintsAndKeeps name content a c bytes
@@ -71,65 +46,6 @@ kept_after name content a b c bytes stays keeps =
       written = keeps.written;
       others = λ other away. keeps.others other away ∙ ap (λ (files : Text → Option (List ℕ)). files other) stays.files;
     }
-
--- all rounds were made, and the memo of the last one's history was written, if it has a name
-pub carried_out :
-    (name : Option Text) (workers : ℕ) (p : Plan) (a b : World) (earlier later : Work) (exits : Bool) (left : History)
-    (played : IsPlayed workers p a b earlier later exits left) (c : World)
-    → PrintsAndKeeps name (memo left) a c (concat (texts_of p played.found))
-    → IsKeptWithin name (memo left)
-    → IsCarriedOut name workers p a c earlier later exits
-carried_out name workers p a b earlier later exits left played c keeps within =
-    record {
-      found = played.found;
-      made = played.made;
-      all = played.all;
-      rounds = played.rounds;
-      turns = played.turns;
-      keeps = subst (λ (h : History). PrintsAndKeeps name (memo h) a c (concat (texts_of p played.found)))
-          played.is_left keeps;
-      within = subst (λ (h : History). IsKeptWithin name (memo h)) played.is_left within;
-      are_exits = played.are_exits;
-    }
-
--- and the memo was written
-pub carried_and_kept :
-    (name : Text) (workers : ℕ) (p : Plan) (a b c : World) (earlier later : Work) (exits : Bool) (left : History)
-    → IsPlayed workers p a b earlier later exits left → Keeps name (memo left) b c
-    → IsKeptWithin (Some name) (memo left)
-    → IsCarriedOut (Some name) workers p a c earlier later exits
-carried_and_kept name workers p a b c earlier later exits left played keeps within =
-    carried_out (Some name) workers p a b earlier later exits left played c
-    (printed_and_kept name (memo left) a b c (concat (texts_of p played.found)) played.prints keeps) within
-
--- and no memo was requested
-pub carried_alone :
-    (workers : ℕ) (p : Plan) (a b : World) (earlier later : Work) (exits : Bool) (left : History)
-    → IsPlayed workers p a b earlier later exits left → IsCarriedOut None workers p a b earlier later exits
-carried_alone workers p a b earlier later exits left played =
-    carried_out None workers p a b earlier later exits left played b
-    (printed_alone (memo left) a b (concat (texts_of p played.found)) played.prints) tt
-
--- and the memo wasn't written
-pub carried_unkept :
-    (name : Text) (workers : ℕ) (p : Plan) (a b c : World) (earlier later : Work) (exits : Bool) (left : History)
-    (why : Status)
-    → IsPlayed workers p a b earlier later exits left → NoneFell a b → WhyUnkept name (memo left) b c why
-    → WhyUndone (Some name) workers p a c earlier later why
-carried_unkept name workers p a b c earlier later exits left why played counts cause =
-    inr
-    (record {
-      found = played.found;
-      made = played.made;
-      all = played.all;
-      rounds = played.rounds;
-      between = b;
-      counts = counts;
-      prints = played.prints;
-      kept = name;
-      is_named = refl;
-      why = subst (λ (h : History). WhyUnkept name (memo h) b c why) played.is_left cause;
-    })
 
 done_by :
     (line : Line) (a b c : World) (p : Plan) (earlier later : Work) (exits : Bool)

@@ -21,7 +21,7 @@ use Rattle.rerun_spec.specs.Reports.{made_exits, all_made_exit}
 use Rattle.rerun_spec.proofs.Rounds.{IsSoundlyMade, each-round, scratch-begins, round-machine}
 use Rattle.round_report.specs.Short.{short_text, short_of, made_short}
 use Rattle.ith_host.specs.World.{World, Stays, AsksNothing}
-use Rattle.ith_words.specs.Words.{Generates, GenerateLine, default_fuel, default_limit}
+use Rattle.ith_words.specs.Words.{Generates, GenerateLine}
 use Rattle.ith_commands.specs.declared.status.Status.{Status}
 use Rattle.ith_commands.specs.declared.status.Status.TheVariants as status
 use Rattle.ith_commands.specs.Contents.{Plan, IsGeneratedPlan}
@@ -97,27 +97,6 @@ generated-small number g is =
     let same : length g.input.items ≡ length (input_of number) = ap (λ (l : List ℕ). length l) is.input in
     let count = length-input_of number in omega arith
 
--- the plan of what was generated
-pub generated_plan :
-    (number : ℕ) (g : Generated) (s : Setup) (p : Plan)
-    → IsOf number g
-    → s ≡ record { elf = g.elf.items; input = g.input.items; fuel = default_fuel; limit = default_limit }
-    → p.beginning ≡ from_scratch s nothing_asked → AreInputs g.input.items (g.edits.items ∷ []) p.inputs
-    → IsGeneratedPlan number p
-generated_plan number g s p is same begins edited =
-    record {
-      elf = g.elf.items;
-      guest = is.elf;
-      beginning = begins ∙ ap (λ (t : Setup). from_scratch t nothing_asked) (same ∙ ap (λ (i : List ℕ). record {
-        elf = g.elf.items;
-        input = i;
-        fuel = default_fuel;
-        limit = default_limit;
-      }) is.input);
-      edited = subst (λ (i : List ℕ). AreInputs i (list_of number ∷ []) p.inputs) is.input
-          (subst (λ (l : List ℕ). AreInputs g.input.items (l ∷ []) p.inputs) is.edits edited);
-    }
-
 -- one list of edits makes one more input
 one_more :
     (first list input next : List ℕ) (rest inputs : List (List ℕ))
@@ -126,19 +105,6 @@ one_more first list input next [] inputs is are = is
 one_more first list input next (more ∷ rest) inputs is are =
     let never : AreInputs first (list ∷ []) (input ∷ next ∷ more ∷ rest) = subst (AreInputs first (list ∷ [])) is are in
     absurd never.1.1
-
--- there is an input after the first
-pub some_first : (first list : List ℕ) (inputs : List (List ℕ)) → AreInputs first (list ∷ []) inputs → inputs ≡ [] → ⊥
-some_first first list inputs are none =
-    let never : AreInputs first (list ∷ []) [] = subst (AreInputs first (list ∷ [])) none are in never
-
-pub some_second :
-    (first list input : List ℕ) (inputs rest : List (List ℕ)) → AreInputs first (list ∷ []) inputs
-    → inputs ≡ input ∷ rest → rest ≡ [] → ⊥
-some_second first list input inputs rest are is none =
-    let never : AreInputs first (list ∷ []) (input ∷ []) =
-    subst (AreInputs first (list ∷ [])) (is ∙ ap (λ (l : List (List ℕ)). input ∷ l) none) are in
-    never.1
 
 and-true : (b : Bool) → (b && true) ≡ b
 and-true true = refl

@@ -1,8 +1,7 @@
 -- Applying records one after the other, as a loop does.
-use Rattle.std.proofs.Common.{◌≡◌, ℕ, suc, ◌+◌, ◌<◌, ◌≤◌, Bool, true, false, cond, List, ◌∷◌, length, drop, Option, Some, None, sym, ap, ◌∙◌, arith}
-use Rattle.std.specs.Prelude.{slice_get, is_some}
+use Rattle.std.proofs.Common.{◌≡◌, ℕ, suc, ◌+◌, ◌<◌, ◌≤◌, Bool, true, false, cond, List, ◌∷◌, length, drop, Option, Some, sym, ap, ◌∙◌, arith}
+use Rattle.std.specs.Prelude.{slice_get}
 use Rattle.std.proofs.Math.Seq.{drop-cons}
-use Rattle.std.proofs.Math.ListN.{drop_of_length-le}
 use Rattle.std.proofs.lemmas.Option.{get_or_from_slice_get}
 use Rattle.thunk_spec.specs.Record.{Record}
 use Rattle.machine_spec.specs.Machine.{Machine}
@@ -34,8 +33,3 @@ pub stale_at : (rs : List Record) (m : Machine) (i : ℕ) (r : Record) (whole : 
 stale_at rs m i r whole lt e fits h =
     sym h ∙ ap (incoherent_from i m) (next_is rs i r lt e)
     ∙ ap (λ (b : Bool). cond b (incoherent_from (i + 1) (apply m r) (drop (i + 1) rs)) (Some i)) fits
-
--- After the last one there is an end, or none.
-pub at_end : (rs : List Record) (m : Machine) (i : ℕ) (whole : Option ℕ) → length rs ≤ i
-    → incoherent_from i m (drop i rs) ≡ whole → whole ≡ cond (is_some m.ending) None (Some i)
-at_end rs m i whole le h = sym h ∙ ap (incoherent_from i m) (drop_of_length-le rs le)

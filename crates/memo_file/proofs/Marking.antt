@@ -8,7 +8,7 @@ use Rattle.std.specs.Simd.Lanes.{mask_l}
 use Rattle.std.proofs.lemmas.Bool.{ne_eqb}
 use Rattle.std.proofs.lemmas.Simd.{ones-mask_l}
 use Rattle.std.proofs.lemmas.Nat.Bits.{bit_at-zero, shr_and_one}
-use Rattle.std.proofs.lemmas.List.{take_more, take_all, length-set, length-replicate}
+use Rattle.std.proofs.lemmas.List.{take_more, take_all, length-set}
 use Rattle.std.proofs.lemmas.List.Sums.{count_by_more_yes, count_by_more_no, count_by-le-length, sum_by-append, sum_by-take-le}
 use Rattle.memory_spec.specs.Workspace.{no_marks}
 use Rattle.thunk_spec.specs.Delta.{chosen}
@@ -127,9 +127,6 @@ filled-skip [] p e = refl
 filled-skip (x ∷ m) zero e = ap (λ (y : Bool). y ∷ filled zero m) (sym e)
 filled-skip (x ∷ m) (suc p) e = ap (λ (r : List Bool). x ∷ r) (filled-skip m p e)
 
-chosen-none : (page : List ℕ) → chosen [] page ≡ []
-chosen-none page = refl
-
 chosen-set : (m : List Bool) (page : List ℕ) (p b : ℕ) → p < length m → p < length page → get_or m p false ≡ true
     → chosen (take (suc p) m) (set page p b) ≡ chosen (take p m) page ++ b ∷ []
 chosen-set [] page p b lt le e = absurd (omega arith)
@@ -148,10 +145,6 @@ chosen-skip (x ∷ m) [] (suc p) e = refl
 chosen-skip (x ∷ m) (y ∷ page) zero e = rw e refl
 chosen-skip (true ∷ m) (y ∷ page) (suc p) e = ap (λ (r : List ℕ). y ∷ r) (chosen-skip m page p e)
 chosen-skip (false ∷ m) (y ∷ page) (suc p) e = chosen-skip m page p e
-
-length-no_marks : length no_marks ≡ 4096
-unfolding no_marks
-length-no_marks = length-replicate {A = Bool} 4096 false
 
 is_no_marks : replicate 4096 false ≡ no_marks
 unfolding no_marks

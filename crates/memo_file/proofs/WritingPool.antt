@@ -68,10 +68,6 @@ pub index_of_next :
 index_of_next pool p q w new old is fresh o n =
     index_of_new pool p q new old fresh o (n ∙ ap (λ (k : ℕ). cond (bytes_eq p q) (Some k) old) is)
 
--- A pool after a page that it doesn't have.
-pub with_new : (pool : Pages) (page : List ℕ) → has_page pool page ≡ false → with_page pool page ≡ pool ++ page ∷ []
-with_new pool page h = rw h refl
-
 pub place_new : (pool : Pages) (page : List ℕ) → has_page pool page ≡ false
     → index_in (with_page pool page) page ≡ length pool
 place_new pool page h = rw h (index_new pool [] page h)
@@ -79,26 +75,6 @@ place_new pool page h = rw h (index_new pool [] page h)
 -- A pool after a page that it has.
 pub with_old : (pool : Pages) (page : List ℕ) → has_page pool page ≡ true → with_page pool page ≡ pool
 with_old pool page h = rw h refl
-
--- The answer of a map that has the index of each page, if the page has one, and if it has none.
-pub found_place : (pool : Pages) (page : List ℕ) (b : Bool) (i : ℕ) (o : Option ℕ) → has_page pool page ≡ b
-    → o ≡ cond b (Some (index_in pool page)) None → o ≡ Some i
-    → (has_page pool page ≡ true) × (i ≡ index_in pool page)
-found_place pool page true i o h e s = (h, same i (index_in pool page) (sym s ∙ e))
-  where
-    same : (i x : ℕ) → Some i ≡ Some x → i ≡ x
-    same i x e = cc
-found_place pool page false i o h e s = absurd (differ i (sym s ∙ e))
-  where
-    differ : (i : ℕ) → Some i ≡ None → ⊥
-    differ i e = cc
-
-pub none_found : (b : Bool) (x : ℕ) (o : Option ℕ) → o ≡ cond b (Some x) None → o ≡ None → b ≡ false
-none_found true x o e n = absurd (differ x (sym e ∙ n))
-  where
-    differ : (i : ℕ) → Some i ≡ None → ⊥
-    differ i e = cc
-none_found false x o e n = refl
 
 -- A page at a place of a pool is in the pool, and this is its place.
 pub stands_there : (indices : BTreeMap (Bor (List ℕ)) ℕ) (pool : Pages) (place : ℕ) (page : List ℕ)

@@ -27,12 +27,6 @@ use Rattle.memo_file.specs.WritingSizes.{stored_size, record_size, memo_size, Ha
 length_word : (n : ℕ) → length (word n) ≡ 4
 length_word n = refl
 
-length_half : (n : ℕ) → length (half n) ≡ 2
-length_half n = refl
-
-length_byte : (n : ℕ) → length (byte n) ≡ 1
-length_byte n = refl
-
 length_words : (ns : List ℕ) → length (flat_map word ns) ≡ 4 * length ns
 length_words [] = refl
 length_words (n ∷ ns) = omega (arith, length-append (word n) (flat_map word ns), length_word n, length_words ns)

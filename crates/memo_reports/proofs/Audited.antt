@@ -1,7 +1,6 @@
 -- How far some records were audited, from a machine on.
 use Rattle.std.proofs.Common.{◌≡◌, ℕ, zero, suc, ◌+◌, ◌*◌, ◌^◌, ◌<◌, ◌≤◌, Bool, false, cond, List, [], ◌∷◌, length, drop, Option, Some, None, is_none, refl, sym, ap, ◌∙◌, subst, arith}
 use Rattle.std.specs.Prelude.{slice_get}
-use Rattle.std.proofs.Math.ListN.{drop_of_length-le}
 use Rattle.thunk_spec.specs.Record.{Record}
 use Rattle.machine_spec.specs.Machine.{Machine}
 use Rattle.machine_spec.specs.declared.states.End.{End}
@@ -12,7 +11,7 @@ use Rattle.history_spec.specs.Audit.{IsFirstFalseFrom, turns_from}
 use Rattle.memo_reports.specs.declared.audit.claims.Claim.{Claim}
 use Rattle.memo_reports.specs.declared.audit.verdict.Verdict.{Verdict}
 use Rattle.memo_reports.specs.Claims.{AreClaims, IsFoundIn, turns_in, first_of_both}
-use Rattle.memo_reports.proofs.Following.{IsSoFar, far-then, far-closed, far-nothing, claims-far, claims-turns, unstored-unmade, drop-nil, front-of}
+use Rattle.memo_reports.proofs.Following.{IsSoFar, far-then, far-closed, claims-far, claims-turns, unstored-unmade, drop-nil, front-of}
 
 -- Some records were applied, which led to a machine, and what was found in them determines the verdict on all.
 pub record IsAuditedTo (m : Machine) (rs : List Record) (place : ℕ) (core : Machine) (found : Verdict) : Type 0 where
@@ -20,18 +19,6 @@ pub record IsAuditedTo (m : Machine) (rs : List Record) (place : ℕ) (core : Ma
   pub few : found.instructions ≤ place * 2 ^ 32
   pub turns : turns_from m rs ≡ found.instructions + turns_from core (drop place rs)
   pub so_far : IsSoFar (IsFirstFalseFrom m rs) (IsFirstFalseFrom core (drop place rs)) place found.first
-
--- none were
-pub audited-none :
-    (m : Machine) (rs : List Record) (found : Verdict) → found.instructions ≡ 0 → found.first ≡ None
-    → IsAuditedTo m rs 0 m found
-audited-none m rs found none nothing = record {
-  within = omega arith;
-  few = omega (arith, none);
-  turns = omega (arith, none);
-  so_far = subst (λ (p : Option ℕ). IsSoFar (IsFirstFalseFrom m rs) (IsFirstFalseFrom m rs) 0 p) (sym nothing)
-      (far-nothing (IsFirstFalseFrom m rs));
-}
 
 drop-more : (rs : List Record) (a b : ℕ) → drop b (drop a rs) ≡ drop (a + b) rs
 drop-more rs zero b = let e : b ≡ 0 + b = omega arith in ap (λ (k : ℕ). drop k rs) e
@@ -96,23 +83,3 @@ audited-stuck m rs place core found then so lt stuck first sum =
 ends : (m : Machine) (e : Option End) → m.ending ≡ e → IsFirstFalseFrom m [] (cond (is_none e) (Some 0) None)
 ends m None is = rw is refl
 ends m (Some e) is = rw is refl
-
--- or if none remains, by whether there is an end
-pub audited-all :
-    (m : Machine) (rs : List Record) (place : ℕ) (core : Machine) (found then : Verdict) (endless : Bool)
-    → IsAuditedTo m rs place core found → length rs ≤ place → endless ≡ is_none core.ending
-    → then.first ≡ first_of_both found.first place (cond endless (Some 0) None)
-    → then.instructions ≡ found.instructions
-    → IsOfAll m rs then
-audited-all m rs place core found then endless so all is first sum =
-    let nothing : drop place rs ≡ [] = drop_of_length-le rs all in
-    let none : turns_from core (drop place rs) ≡ 0 = ap (turns_from core) nothing in
-    let p : Option ℕ = cond endless (Some 0) None in
-    let ending : IsFirstFalseFrom core [] p =
-    subst (λ (b : Bool). IsFirstFalseFrom core [] (cond b (Some 0) None)) (sym is) (ends core core.ending refl) in
-    record {
-      first = subst (IsFirstFalseFrom m rs) (sym first)
-          (far-closed (IsFirstFalseFrom m rs) (IsFirstFalseFrom core (drop place rs)) place found.first p so.so_far
-          (subst (λ (l : List Record). IsFirstFalseFrom core l p) (sym nothing) ending));
-      turns = omega (arith, so.turns, none, sum);
-    }

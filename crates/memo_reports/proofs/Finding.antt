@@ -30,14 +30,6 @@ first-below [] i x = absurd x
 first-below (c ∷ cs) zero x = omega arith
 first-below (c ∷ cs) (suc i) x = omega (arith, first-below cs i x.1)
 
--- nothing is found in no claim
-pub found-none : (v : Verdict) → v.instructions ≡ 0 → v.first ≡ None → IsFoundIn [] v
-found-none v none first = record {
-  instructions = none;
-  few = omega arith;
-  first = subst (λ (p : Option ℕ). IsFirstIn [] p) (sym first) tt;
-}
-
 pub found-append :
     (xs ys : List Claim) (a b v : Verdict) → IsFoundIn xs a → IsFoundIn ys b
     → v.instructions ≡ a.instructions + b.instructions → v.first ≡ first_of_both a.first (length xs) b.first

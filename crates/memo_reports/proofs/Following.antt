@@ -65,10 +65,6 @@ pub far-closed :
 far-closed Whole Rest count None p x rest = x p rest
 far-closed Whole Rest count (Some i) p x rest = x
 
-pub both-nothing : (a : Option ℕ) (count : ℕ) → first_of_both a count None ≡ a
-both-nothing None count = refl
-both-nothing (Some i) count = refl
-
 -- no claim was checked
 pub far-nothing : (Whole : Option ℕ → Type 0) → IsSoFar Whole Whole 0 None
 far-nothing Whole None whole = whole

@@ -41,13 +41,6 @@ pub record IsPassed (fs : List Fact) (i end : ℕ) : Type 0 where
   pub apart : (k : ℕ) → end ≤ k → k < i → eqb (fact_at fs k).thread (fact_at fs i).thread ≡ false
   pub same : giver_end fs i ≡ last_below (λ g. gave_at fs g i) end
 
-pub passed-none : (fs : List Fact) (i : ℕ) → IsPassed fs i i
-passed-none fs i = record {
-  within = omega arith;
-  apart = λ k low high. absurd (omega arith);
-  same = refl;
-}
-
 pub given-here :
     (fs : List Fact) (i e : ℕ) → IsPassed fs i (suc e) → is_in (fact_at fs i).thread (fact_at fs e).given ≡ true
     → suc e ≡ giver_end fs i
@@ -80,17 +73,3 @@ own-here fs i e passed none own =
     (rw (late, is) refl) in
     rw fails (and-false (is_in (fact_at fs i).thread (fact_at fs g).given)))) in
     sym (passed.same ∙ (rw none earlier))
-
-pub pass-more :
-    (fs : List Fact) (i e : ℕ) → IsPassed fs i (suc e) → is_in (fact_at fs i).thread (fact_at fs e).given ≡ false
-    → eqb (fact_at fs e).thread (fact_at fs i).thread ≡ false
-    → IsPassed fs i e
-pass-more fs i e passed none other =
-    record {
-      within = (let low = passed.within in omega arith);
-      apart = λ k low high. elim (cases_eq k e) [
-        | inl same ↦ ap (λ n. eqb (fact_at fs n).thread (fact_at fs i).thread) same ∙ other
-        | inr above ↦ passed.apart k (omega arith) high
-      ];
-      same = passed.same ∙ (rw none refl);
-    }

@@ -188,10 +188,6 @@ ended_ok format (Ok x) h p = at_end (length x.1.left == 0) refl p
         (x, refl, k.2, nil_from_length x.1.left (eqb-true _ _ e), k.1, k.0)
     at_end false e p = absurd cc
 
-not_false : (b : Bool) → not b ≡ false → b ≡ true
-not_false true e = refl
-not_false false e = absurd cc
-
 equal_bytes : (xs ys : List ℕ) → not (bytes_eq xs ys) ≡ false → xs ≡ ys
 equal_bytes xs ys e = elim (bytes_determine xs ys) [ inl h ↦ h.1 | inr h ↦ absurd (differ (bytes_eq xs ys) h.0 e) ]
   where

@@ -41,21 +41,6 @@ has_in_front (p ∷ s) t page = elim (bytes_determine page p) [ inl h ↦ here h
         let k : index_in (p ∷ s ++ t) page ≡ suc (index_in (s ++ t) page) = rw h (omega arith) in
         rw (k, h) (e ∙ step (index_in (s ++ t) page) (length s))
 
-front_index : (s t : Pages) (page : List ℕ) → index_in (s ++ t) page < length s
-    → index_in s page ≡ index_in (s ++ t) page
-front_index [] t page lt = absurd (omega arith)
-front_index (p ∷ s) t page lt = elim (bytes_determine page p) [ inl h ↦ here h.0 | inr h ↦ later h.0 (front_index s t page) ]
-  where
-    here : bytes_eq page p ≡ true → index_in (p ∷ s) page ≡ index_in (p ∷ s ++ t) page
-    here h = rw h refl
-
-    later : bytes_eq page p ≡ false → (index_in (s ++ t) page < length s → index_in s page ≡ index_in (s ++ t) page)
-        → index_in (p ∷ s) page ≡ index_in (p ∷ s ++ t) page
-    later h e =
-        let k : index_in (p ∷ s ++ t) page ≡ suc (index_in (s ++ t) page) = rw h (omega arith) in
-        let j : index_in (p ∷ s) page ≡ suc (index_in s page) = rw h (omega arith) in
-        j ∙ ap suc (e (omega (arith, k, lt))) ∙ sym k
-
 -- A page that is appended to a pool doesn't change the index of another.
 pub index_push : (s t : Pages) (page : List ℕ) → index_in s page < length s → index_in (s ++ t) page ≡ index_in s page
 index_push [] t page lt = absurd (omega arith)

@@ -176,11 +176,6 @@ raw_bytes pages pool x =
     byte x.0.thread ++ (byte (end_number x.0.kept.end) ++
     (word x.0.kept.count ++ (registers x.0.start ++ (registers x.0.kept.finish ++ tail_bytes pages pool x))))
 
-the_end : (x : Out) (s : RecordState) (thread end count : ℕ) (start finish : Registers) (reads : Reads) (delta : Stored)
-    → end < 10 → x ≡ made s thread end count start finish reads delta → end_number x.0.kept.end ≡ end
-the_end x s thread end count start finish reads delta lt e = ap (λ (z : Out). end_number z.0.kept.end) e
-    ∙ (number_of_end end lt).0
-
 agrees_raw : (pages : List Mapped) (fuel : ℕ) (pool : List (List ℕ)) (s : RecordState) → IsPageMap pages → IsPool pool
     → Agrees (record_at pages fuel pool s) (raw_bytes pages pool) (FitsRaw pages fuel pool s)
 unfolding record_at

@@ -1,5 +1,5 @@
 -- The reader of a setup agrees with its encoding.
-use Rattle.std.proofs.Common.{◌≡◌, ℕ, ◌^◌, ◌<◌, true, leb, List, [], ◌++◌, length, Option, Some, None, Result, Ok, refl, sym, ap, subst, ◌∙◌, append_assoc, arith}
+use Rattle.std.proofs.Common.{◌≡◌, ℕ, ◌^◌, ◌<◌, true, leb, List, [], ◌++◌, length, Option, Some, None, Ok, refl, sym, ap, subst, ◌∙◌, append_assoc, arith}
 use Rattle.std.specs.Prelude.{is_none}
 use Rattle.std.specs.Int.{w32}
 use Rattle.std.specs.Cmp.Derive.{both_true}
@@ -17,9 +17,6 @@ use Rattle.memo_spec.specs.Encoding.{AreBytes, word}
 use Rattle.memo_spec.specs.Reader.{Reader, ◌>>=◌, done, bytes_at, number_at, limited}
 use Rattle.memo_spec.specs.Reading.{is_within, accepted, setup_at}
 use Rattle.memo_spec.proofs.Formats.{Agrees, agrees_then, agrees_done, agrees_said, agrees_part, agrees_tested, agrees_number, agrees_bytes, wide32}
-
-fine : List ℕ → Place → Result (List ℕ × Place) Refusal
-fine bytes p = Ok (bytes, p)
 
 accepted_ok : (o : Option elf.Refusal) (bytes : List ℕ) (p : Place) (x : List ℕ × Place) → accepted o bytes p ≡ Ok x
     → (o ≡ None) × (accepted o bytes ≡ done bytes)

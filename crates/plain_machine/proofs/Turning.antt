@@ -1,17 +1,15 @@
 -- The result of turns made one after the other is that of the thunk of them all.
 use Rattle.std.proofs.Common.{◌≡◌, ℕ, ◌+◌, ◌-◌, ◌<◌, suc, List, [], ap, sym, subst, ◌∙◌, refl, arith, add_assoc}
-use Rattle.isa_spec.specs.declared.Cause.{Cause}
 use Rattle.isa_spec.specs.Registers.{Registers}
 use Rattle.memory_spec.specs.Pages.{Mapped, Memory, IsMemory, on_each}
 use Rattle.memory_spec.specs.Stores.{with_stores}
 use Rattle.memory_spec.specs.Workspace.{Workspace, Masks, no_marks, marked}
 use Rattle.thunk_spec.specs.declared.ends.Outcome.{Outcome}
 use Rattle.thunk_spec.specs.declared.ends.Outcome.TheVariants as outcome
-use Rattle.thunk_spec.specs.declared.ends.ThunkEnd.{ThunkEnd}
 use Rattle.thunk_spec.specs.declared.ends.ThunkEnd.TheVariants as thunk_end
 use Rattle.thunk_spec.specs.Turn.{Turn, turn}
 use Rattle.thunk_spec.specs.Put.{put_addresses, bytes_at}
-use Rattle.thunk_spec.specs.Thunk.{Frame, Thunk, thunk, turns, followed, after_turn, last_turn}
+use Rattle.thunk_spec.specs.Thunk.{Frame, Thunk, thunk, turns, followed, after_turn}
 use Rattle.rv_step.specs.Step.{Makes}
 use Rattle.plain_machine.specs.declared.thunk.ThunkResult.{ThunkResult}
 use Rattle.plain_machine.specs.Stored.{bytes_of}
@@ -40,16 +38,6 @@ followed-next :
     → o ≡ outcome.Next → followed o map memory t rest ≡ after_turn t (rest (with_stores map memory t.stores) t.regs)
 followed-next o map memory t rest e = rw e refl
 
-followed-call :
-    (o : Outcome) (map : List Mapped) (memory : Memory) (t : Turn) (rest : Memory → Registers → Thunk)
-    → o ≡ outcome.Call → followed o map memory t rest ≡ last_turn thunk_end.Call t
-followed-call o map memory t rest e = rw e refl
-
-followed-trap :
-    (o : Outcome) (cause : Cause) (map : List Mapped) (memory : Memory) (t : Turn) (rest : Memory → Registers → Thunk)
-    → o ≡ outcome.Trap cause → followed o map memory t rest ≡ last_turn (thunk_end.Trap cause) t
-followed-trap o cause map memory t rest e = rw e refl
-
 counted-twice : (a b : ℕ) (l : TurnsOutcome) → counted a (counted b l) ≡ counted (a + b) l
 counted-twice a b l = ap (λ (n : ℕ). record l { count = n }) (sym (add_assoc a b l.count))
 
@@ -74,46 +62,6 @@ turns-next fuel count w after r registers o lt made next =
     (left_after w.map (fuel - (count + 1)) (with_stores w.map w.memory (turn w.map w.memory r).stores)
     (marked w.map w.stored (turn w.map w.memory r).stores)
     (turn w.map w.memory r).regs)))
-
-last-turn :
-    (fuel count : ℕ) (w after : Workspace) (r registers : Registers) (o : Outcome) (end : ThunkEnd)
-    → count < fuel → Makes (turn w.map w.memory r) w o registers after
-    → followed (turn w.map w.memory r).outcome w.map w.memory (turn w.map w.memory r) (turns w.map (fuel - (count + 1)))
-    ≡ last_turn end (turn w.map w.memory r)
-    → counted count (left_after w.map (fuel - count) w.memory w.stored r)
-    ≡ record { regs = registers; end = end; count = count + 1; memory = after.memory; stored = after.stored }
-last-turn fuel count w after r registers o end lt made ended =
-    let left : fuel - count ≡ suc (fuel - (count + 1)) = omega arith in
-    rw (left, made.workspace_is, made.regs_are)
-    (ap (λ (t : Thunk). counted count (left_by w.map w.memory w.stored t)) ended)
-
--- the last turn called
-pub turns-call :
-    (fuel count : ℕ) (w after : Workspace) (r registers : Registers) (o : Outcome)
-    → count < fuel → Makes (turn w.map w.memory r) w o registers after → o ≡ outcome.Call
-    → counted count (left_after w.map (fuel - count) w.memory w.stored r)
-    ≡ record { regs = registers; end = thunk_end.Call; count = count + 1; memory = after.memory; stored = after.stored }
-turns-call fuel count w after r registers o lt made call =
-    last-turn fuel count w after r registers o thunk_end.Call lt made
-    (followed-call (turn w.map w.memory r).outcome w.map w.memory (turn w.map w.memory r)
-    (turns w.map (fuel - (count + 1))) (sym made.outcome_is ∙ call))
-
--- the last turn trapped
-pub turns-trap :
-    (fuel count : ℕ) (w after : Workspace) (r registers : Registers) (o : Outcome) (cause : Cause)
-    → count < fuel → Makes (turn w.map w.memory r) w o registers after → o ≡ outcome.Trap cause
-    → counted count (left_after w.map (fuel - count) w.memory w.stored r)
-    ≡ record {
-      regs = registers;
-      end = thunk_end.Trap cause;
-      count = count + 1;
-      memory = after.memory;
-      stored = after.stored;
-    }
-turns-trap fuel count w after r registers o cause lt made trap =
-    last-turn fuel count w after r registers o (thunk_end.Trap cause) lt made
-    (followed-trap (turn w.map w.memory r).outcome cause w.map w.memory (turn w.map w.memory r)
-    (turns w.map (fuel - (count + 1))) (sym made.outcome_is ∙ trap))
 
 -- the result of turns on a copy of a view, with the bytes of the put, is that of the thunk on this view
 pub is-done :

@@ -1,5 +1,5 @@
 -- A round that continues as its history did, but for some pages.
-use Rattle.std.proofs.Common.{◌≡◌, ◌<◌, ◌+◌, ℕ, zero, suc, Bool, true, false, ◌&&◌, ◌||◌, not, eqb, List, [], ◌∷◌, ◌++◌, length, map, set, take, replicate, cond, Option, Vec, Some, None, is_none, is_some, refl, ap, ap₂, sym, ◌∙◌, subst, inl, inr, arith}
+use Rattle.std.proofs.Common.{◌≡◌, ◌<◌, ◌+◌, ℕ, zero, suc, Bool, true, false, ◌&&◌, ◌||◌, not, eqb, List, [], ◌∷◌, ◌++◌, length, map, set, take, cond, Option, Vec, Some, None, is_none, is_some, refl, ap, ap₂, sym, ◌∙◌, subst, inl, inr, arith}
 use Rattle.std.proofs.lemmas.Bool.{and_parts, cases_eq, cases_lt, eq-eqb, eqb-true}
 use Rattle.std.proofs.lemmas.Bool.Decides.{nat_tests}
 use Rattle.std.proofs.lemmas.List.{length-append, length-set, get_or_past, get_or-set_same}
@@ -417,11 +417,6 @@ pub clean-unmarked : (marks : List Bool) (reads : List ReadPage) → IsClean mar
 clean-unmarked marks [] clean = refl
 clean-unmarked marks (r ∷ reads) clean =
     ap (λ (b : Bool). not b && all_unmarked marks reads) (clean r.slot) ∙ clean-unmarked marks reads clean
-
-pub clean-at-start : (n p : ℕ) → is_marked (replicate n false) p ≡ false
-clean-at-start zero p = refl
-clean-at-start (suc n) zero = refl
-clean-at-start (suc n) (suc p) = clean-at-start n p
 
 -- the same of a round that keeps marks
 pub next-fits-of :

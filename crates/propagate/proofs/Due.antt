@@ -20,9 +20,6 @@ use Rattle.propagate.specs.Choosing.{has_made, HaveMade}
 
 -- the records of the history, if there is one
 
-pub some-run : (past : Option History) (h : History) → past ≡ Some h → AreOfRun h.records → AreOfRun (past_records past)
-some-run past h is run = subst (λ (p : Option History). AreOfRun (past_records p)) (sym is) run
-
 pub none-run : (past : Option History) → past ≡ None → AreOfRun (past_records past)
 none-run past is =
     subst (λ (p : Option History). AreOfRun (past_records p)) (sym is)

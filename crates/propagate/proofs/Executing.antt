@@ -19,7 +19,7 @@ use Rattle.round_spec.specs.declared.events.Event.TheVariants.{Take, Reuse, Comm
 use Rattle.round_spec.specs.declared.events.Pick.{Pick}
 use Rattle.round_spec.specs.declared.events.Pick.TheVariants as pick
 use Rattle.round_spec.specs.Marks.{record_for, fits_next}
-use Rattle.round_spec.specs.Rounds.{RoundState, opening, is_finished, is_in_flight, can_begin, can_take, can_reuse, taken, reused_by, committed, given_back, happens}
+use Rattle.round_spec.specs.Rounds.{RoundState, is_finished, is_in_flight, can_begin, can_take, can_reuse, taken, reused_by, committed, given_back, happens}
 use Rattle.round_spec.specs.Choice.{pick_of}
 use Rattle.round_spec.specs.Alone.{one_worker, after_pick, after_picks, lone_round}
 use Rattle.round_spec.proofs.Leaving.{round-setup, round-past}
@@ -32,8 +32,8 @@ use Rattle.round_spec.proofs.Lone.{one_worker-permitted, one_worker-complete, lo
 use Rattle.round_spec.proofs.Picked.{lone-all_picked}
 use Rattle.round_spec.proofs.Ending.{lone-ends, lone-discarded}
 use Rattle.round_spec.proofs.Unedited.{unedited-reuses}
-use Rattle.round_spec.specs.Replaying.{Repeats, IsReplaying, goes_on_by}
-use Rattle.round_spec.proofs.Replay.{replays-start, replays-on, replays-next}
+use Rattle.round_spec.specs.Replaying.{IsReplaying, goes_on_by}
+use Rattle.round_spec.proofs.Replay.{replays-on, replays-next}
 use Rattle.thunk_run.specs.declared.job.Job.{Job}
 use Rattle.thunk_run.specs.declared.job.Run.{Run}
 use Rattle.thunk_run.specs.Running.{IsRunOf}
@@ -66,10 +66,6 @@ pub run-record :
 run-record m t job run own ran =
     own-record m t (arc_value run.rec) (ran.thread ∙ own.thread) (ran.number ∙ own.number) (ran.start ∙ own.regs)
     (ran.kept ∙ rw (own.frame, own.view, own.regs) refl)
-
-over-false : (b c : Bool) → (not b && c) ≡ true → b ≡ false
-over-false true c h = cc
-over-false false c h = refl
 
 take-going : (w : RoundState) (t : ℕ) → can_take w t ≡ true → is_finished w ≡ false
 take-going w t can =
@@ -268,24 +264,6 @@ pub run-spares :
     (w v : RoundState) (t before now : ℕ) → IsSetup w.setup → pick_of w ≡ pick.Run t → Spares before w now v
 run-spares w v t before now valid picked = λ h coherent replays.
     absurd (never-runs h w t valid coherent replays picked)
-
-pub stay-spares :
-    (w v : RoundState) (before now : ℕ) → v ≡ w
-    → ((h : History) → is_coherent h ≡ true → IsReplaying h w → now ≡ before)
-    → Spares before w now v
-stay-spares w v before now same spares = λ h coherent replays. (
-  subst (IsReplaying h) (sym same) replays,
-  spares h coherent replays,
-)
-
-pub alone-spares :
-    (setup : Setup) (past : Option History) (opened w : RoundState) (before now : ℕ) (h : History)
-    → opened ≡ opening setup past → Spares before opened now w → past ≡ Some h → Repeats h setup → now ≡ before
-alone-spares setup past opened w before now h is spares there repeats =
-    (spares h repeats.coherent
-    (subst (IsReplaying h)
-    (ap (λ (s : Setup). opening s (Some h)) repeats.same ∙ ap (opening setup) (sym there) ∙ sym is)
-    (replays-start h))).1
 
 -- the round of one worker
 

@@ -762,14 +762,3 @@ right-there w t r (Some v) were there = of w.past refl
         let same : place_in w.past w.machine t ≡ place_in (Some h) w.machine t =
         ap (λ (p : Option History). place_in p w.machine t) is in
         omega (arith, (were h is).count)
-
-pub right-few :
-    (w : RoundState) (t : ℕ) (r : Record) (vs : Option (Box Versions Global))
-    → AreRight w (unboxed vs) → record_for w.past w.machine t ≡ Some r
-    → IfSome vs (λ (v : Box Versions Global). length v.value.steps.items ≤ 65536)
-right-few w t r None were there = tt
-right-few w t r (Some v) were there = of w.past refl
-  where
-    of : (past : Option History) → w.past ≡ past → length v.value.steps.items ≤ 65536
-    of None is = absurd (let none = sym there ∙ ap (λ (p : Option History). record_for p w.machine t) is in cc)
-    of (Some h) is = (were h is).few

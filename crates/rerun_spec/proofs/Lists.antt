@@ -55,10 +55,3 @@ pub every-map :
     → ((x : X) → P (f x)) → AllByRecursion P (map f xs)
 every-map P f [] holds = tt
 every-map P f (x ∷ xs) holds = (holds x, every-map P f xs holds)
-
--- what follows from two properties of each element
-pub every-both :
-    {X : Type 0} (P Q R : X → Type 0) (xs : List X)
-    → ((x : X) → P x → Q x → R x) → AllByRecursion P xs → AllByRecursion Q xs → AllByRecursion R xs
-every-both P Q R [] make all others = tt
-every-both P Q R (x ∷ xs) make all others = (make x all.0 others.0, every-both P Q R xs make all.1 others.1)

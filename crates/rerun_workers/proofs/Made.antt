@@ -10,7 +10,6 @@ use Rattle.round_spec.specs.Workers.{IsMadeBy}
 use Rattle.round_spec.proofs.Workers.{lone-made, ended-made}
 use Rattle.round_spec.specs.Picking.{ArePicked, IsPickedSoFar}
 use Rattle.round_spec.specs.Unedited.{IsUnedited, OnlyReuses}
-use Rattle.round_spec.specs.Watching.{IsProgress}
 use Rattle.round_spec.proofs.Replay.{unedited-repeats, replays-end}
 use Rattle.round_spec.proofs.ByWorkers.{reexecutes-picked}
 use Rattle.propagate.specs.Executing.{executed_by, IsCostOf}
@@ -154,14 +153,4 @@ cost-several workers turns compared s before w worker_steps many closed =
     record {
       alone = λ one. absurd (let no : 1 < workers = many in omega (arith, one, no));
       idle = closed.idle;
-    }
-
--- a single number, that of all steps, is the progress of a round
-pub only-last : (workers steps : ℕ) → IsProgress workers steps (steps ∷ [])
-only-last workers steps =
-    record {
-      ascends = λ k within. absurd (omega (arith, within));
-      few = omega arith;
-      last = refl;
-      alone = λ one. refl;
     }

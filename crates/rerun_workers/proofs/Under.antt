@@ -19,12 +19,6 @@ pub watched_on :
 watched_on w v table counter on watched =
     subst (λ (n : ℕ). IsCounting table n counter) (sym (same-length w v on)) watched
 
--- one more entry was added, and was counted
-pub counted_more :
-    (w v : RoundState) (total more : ℕ)
-    → Continues 1 w v → more ≡ total + 1 → length w.schedule ≡ total → length v.schedule ≡ more
-counted_more w v total more on added counted = let entries = on.entries in omega (arith, entries, added, counted)
-
 pub watched_more :
     (w v : RoundState) (table : TableId) (counter later : Option Counter)
     → Continues 1 w v

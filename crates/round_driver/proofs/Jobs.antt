@@ -1,5 +1,5 @@
 -- A thread in flight keeps its hart, so the step that was taken stays its next one.
-use Rattle.std.proofs.Common.{◌≡◌, ◌≢◌, ◌<◌, ◌+◌, ℕ, zero, suc, Bool, true, false, ◌||◌, cond, List, [], ◌∷◌, drop, get_or, set, length, Option, Some, None, is_some, is_none, Result, Ok, Err, OnOk, OnErr, refl, ap, sym, ◌∙◌, subst, inl, inr, arith}
+use Rattle.std.proofs.Common.{◌≡◌, ◌≢◌, ◌<◌, ◌+◌, ℕ, zero, suc, Bool, true, false, ◌||◌, cond, List, [], ◌∷◌, get_or, set, length, Option, Some, None, is_some, is_none, Result, Ok, Err, OnOk, OnErr, refl, ap, sym, ◌∙◌, subst, inl, inr, arith}
 use Rattle.std.proofs.lemmas.Bool.{cases_eq, and_parts}
 use Rattle.std.proofs.lemmas.List.{get_or-set_same, get_or-set_other, length-set}
 use Rattle.std.specs.Arc.{arc_value}
@@ -18,7 +18,7 @@ use Rattle.thunk_run.specs.declared.job.Run.{Run}
 use Rattle.round_spec.specs.declared.events.Event.{Event}
 use Rattle.round_spec.specs.declared.events.Event.TheVariants.{Take, Reuse, Commit, GiveBack, Stop}
 use Rattle.round_spec.specs.Marks.{record_for, fits_next}
-use Rattle.round_spec.specs.Rounds.{RoundState, none_in_flight, is_finished, is_in_flight, is_in_flight_of, can_begin, can_take, can_reuse, reused_by, committed, given_back, happens, all_happen}
+use Rattle.round_spec.specs.Rounds.{RoundState, none_in_flight, is_finished, is_in_flight, is_in_flight_of, can_begin, can_take, can_reuse, reused_by, committed, given_back, happens}
 use Rattle.round_spec.specs.Keeping.{IsHeld, IsInOrder, IsCounted}
 use Rattle.round_spec.proofs.Conditions.{happens-take, happens-commit_over, happens-give_back}
 use Rattle.round_spec.proofs.Happening.{CanBegin, can_begin-parts, none_in_flight-none, still_in_flight}
@@ -251,12 +251,3 @@ pub over-discards :
     (w : RoundState) (t : ℕ) → is_in_flight w t ≡ true → is_finished w ≡ true
     → happens w (GiveBack t) ≡ happens w (Commit t)
 over-discards w t in_flight over = happens-give_back w t in_flight ∙ sym (happens-commit_over w t in_flight over)
-
--- one event after the other
-pub events-more :
-    (w v : RoundState) (es : List Event) (i : ℕ) (e : Event)
-    → i < length es → get_or es i e ≡ e → v ≡ happens w e
-    → all_happen v (drop (suc i) es) ≡ all_happen w (drop i es)
-events-more w v [] i e below at is = absurd (omega arith)
-events-more w v (x ∷ es) zero e below at is = ap (λ (s : RoundState). all_happen s es) (is ∙ ap (happens w) (sym at))
-events-more w v (x ∷ es) (suc i) e below at is = events-more w v es i e (omega arith) at is

@@ -3,9 +3,7 @@ use Rattle.std.proofs.Common.{◌≡◌, ◌+◌, ◌<◌, ◌==◌, ℕ, Bool, 
 use Rattle.std.specs.List.{position_from, zip}
 use Rattle.std.specs.Str.{bytes_eq}
 use Rattle.std.proofs.lemmas.Bool.{eqb-true}
-use Rattle.std.proofs.lemmas.List.Quantifiers.{position-Some}
 use Rattle.std.proofs.lemmas.List.Elements.{All-head, All-tail}
-use Rattle.std.proofs.lemmas.Slice.Zip.{length-zip}
 use Rattle.std.proofs.lemmas.Slice.Eq.{bytes_eq-Decides}
 use Rattle.std.proofs.lemmas.Iterator.Adapters.{position_from-zero}
 use Rattle.std.proofs.Math.ListN.{length-set}
@@ -14,14 +12,6 @@ use Rattle.isa_spec.proofs.Equality.{same_registers-refl}
 use Rattle.memory_spec.specs.Pages.{Memory, page_of}
 use Rattle.thunk_spec.specs.Reads.{ReadPage, has}
 use Rattle.round_report.specs.Differences.{numbered, first_difference, first_other_page}
-
--- a difference is inside both lists
-pub difference-inside :
-    (xs ys : List ℕ) (place : ℕ) → first_difference xs ys ≡ Some place → (place < length xs) × (place < length ys)
-difference-inside xs ys place is =
-    let inside = (position-Some (λ p. not (p.0 == p.1)) (zip xs ys) place (0, 0) is).0 in
-    let both = length-zip xs ys in
-    (omega arith, omega arith)
 
 -- lists of one length whose pairs don't differ are the same
 same-from :

@@ -1,10 +1,10 @@
 -- How the fields of a guest's file are read.
-use Rattle.std.proofs.Common.{cond, filter, ◌≡◌, ℕ, ◌+◌, ◌<◌, ◌^◌, List, [], ◌∷◌, ◌++◌, length, slice_index, refl, ap, ◌∙◌, length-append}
+use Rattle.std.proofs.Common.{cond, filter, ◌≡◌, ℕ, ◌+◌, ◌<◌, ◌^◌, List, [], ◌∷◌, ◌++◌, length, slice_index, ap, ◌∙◌, length-append}
 use Rattle.std.proofs.lemmas.List.{get_or-append-add}
 use Rattle.std.proofs.lemmas.Bool.{lt-ltb}
 use Rattle.std.proofs.lemmas.Nat.{from_le_bytes-to_le_bytes_4}
 use Rattle.elf_spec.specs.Fields.{u16_at, u32_at}
-use Rattle.elf_spec.specs.Header.{ProgramHeader, is_segment, e_entry, e_phnum, program_header, segments}
+use Rattle.elf_spec.specs.Header.{ProgramHeader, is_segment, e_entry, program_header, segments}
 use Rattle.rv_asm.specs.File.{file_header, segment_header}
 
 -- both headers of a guest's file
@@ -15,9 +15,6 @@ headers base filesz memsz = file_header base ++ segment_header base filesz memsz
 abbrev pub guest_segment : ℕ → ℕ → ℕ → ProgramHeader
 guest_segment base filesz memsz =
     record { kind = 1; offset = 84; vaddr = base; filesz = filesz; memsz = memsz; flags = 7 }
-
-pub length-headers : (base filesz memsz : ℕ) → length (headers base filesz memsz) ≡ 84
-length-headers base filesz memsz = refl
 
 pub length-file :
     (base filesz memsz : ℕ) (bytes : List ℕ)
@@ -34,10 +31,6 @@ pub entry-file :
     → e_entry (headers base filesz memsz ++ bytes) ≡ base
 unfolding u32_at
 entry-file base filesz memsz bytes fits = from_le_bytes-to_le_bytes_4 base fits
-
-pub phnum-file : (base filesz memsz : ℕ) (bytes : List ℕ) → e_phnum (headers base filesz memsz ++ bytes) ≡ 1
-unfolding u16_at
-phnum-file base filesz memsz bytes = refl
 
 pub header-file :
     (base filesz memsz : ℕ) (bytes : List ℕ) → base < 2 ^ 32 → filesz < 2 ^ 32 → memsz < 2 ^ 32

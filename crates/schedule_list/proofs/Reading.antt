@@ -1,5 +1,5 @@
 -- A text is read token by token.
-use Rattle.std.proofs.Common.{◌≡◌, ℕ, ◌<◌, true, false, List, [], ◌∷◌, ◌++◌, length, filter, refl, sym, ap, subst, ◌∙◌, Ok, arith, append_assoc, length-append}
+use Rattle.std.proofs.Common.{◌≡◌, ℕ, ◌<◌, true, false, List, [], ◌∷◌, ◌++◌, length, filter, refl, sym, ap, subst, ◌∙◌, Ok, arith, append_assoc}
 use Rattle.std.specs.List.{All, AllZip, slice_split}
 use Rattle.std.proofs.lemmas.List.{append-nil}
 use Rattle.std.proofs.lemmas.List.Splits.{slice_split_at, slice_split_none}
@@ -45,10 +45,6 @@ pub record HasRead (text : List ℕ) (more : List (List ℕ)) (threads : List �
   pub cut : tokens text ≡ before ++ more
   pub encoded : AllZip Encodes before threads
 
--- nothing was read yet
-pub nothing_read : (text : List ℕ) → HasRead text (tokens text) []
-nothing_read text = record { before = []; cut = refl; encoded = tt }
-
 -- one more piece was read
 pub piece_read :
     (text piece : List ℕ) (more : List (List ℕ)) (before after : List ℕ) → HasRead text (with_piece piece more) before
@@ -91,11 +87,6 @@ refused_there text (byte ∷ piece) more threads (BadToken number) has why =
     (subst (λ (l : List (List ℕ)). IsFirstBad l (length threads)) (sym has.cut)
     (bad_behind has.before (byte ∷ piece) more threads has.encoded why.2))
 refused_there text piece more threads NoMemory has why = tt
-
--- what follows a gap is shorter
-pub after_is_shorter : (text piece after : List ℕ) (gap : ℕ) → text ≡ piece ++ gap ∷ after → length after < length text
-after_is_shorter text piece after gap e =
-    let count = ap length e in let parts = length-append piece (gap ∷ after) in omega arith
 
 -- the rest is cut at its first gap
 pub cut_at_gap :

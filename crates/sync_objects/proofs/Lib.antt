@@ -1,5 +1,4 @@
 -- The files of lemmas of this crate.
-pub mod Idle
 mod QueueRoom
 mod QueueThreads
 pub mod Room
