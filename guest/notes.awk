@@ -1,8 +1,8 @@
-# Reads a disassembly with relocations, and prints for each function and each function that it calls in place of an
-# operator: at how many places, which, and in which function. With mode=pages it reads a list of sections, and says how
-# many pages they take; with mode=instructions it counts the products and quotients in a disassembly. What stands for an
-# operator: products and quotients of integers (mulsi3, udivdi3, ..), and all of float, double and long double (addsf3,
-# muldf3, ..).
+# Reads a disassembly with relocations, and prints for each function that is called in place of an operator: the number
+# of calls, its name, and the calling function. If mode=pages, it reads a list of sections, and prints how many pages
+# they take; if mode=instructions, it counts the products and quotients in a disassembly. The functions in place of
+# operators are products and quotients of integers (mulsi3, udivdi3, ..), and all of float, double and long double
+# (addsf3, muldf3, ..).
 
 BEGIN {
     operator = "^__(u?(mul|div|mod)[sdt]i3"
@@ -21,27 +21,27 @@ mode == "instructions" && /\t(mul|mulhs?u?|divu?|remu?)\t/ {
     instructions++
 }
 
-# a label that isn't a local one of the compiler's is a function
+# a label is a function, unless it is a local one of the compiler's
 mode == "" && /^[0-9a-f]+ <[^.].*>:$/ {
-    inside = $2
-    gsub(/[<>:]/, "", inside)
+    caller = $2
+    gsub(/[<>:]/, "", caller)
 }
 
 mode == "" && /R_RISCV_(CALL|CALL_PLT|JAL)[ \t]/ {
     called = $NF
     sub(/[-+]0x.*/, "", called)
     sub(/^__wrap_/, "", called)
-    if (called ~ operator && inside !~ operator && inside !~ /^__wrap_|^divided_long/)
-        count[called " " inside]++
+    if (called ~ operator && caller !~ operator && caller !~ /^__wrap_|^divide_long/)
+        count[called " " caller]++
 }
 
-# A section's line has its number, name, size and address; they stand in the order of addresses, and two may share a
-# page. What threads have for themselves is no place in memory but a pattern.
+# A section's line has its number, name, size and address. The lines are in the order of addresses, and two sections may
+# share a page. .tbss, for thread-local data, takes no memory.
 mode == "pages" && $1 ~ /^[0-9]+$/ && $2 != ".tbss" && number($4) >= 4096 && number($3) > 0 {
     first = int(number($4) / 4096)
-    behind = int((number($4) + number($3) + 4095) / 4096)
-    pages += behind - (first > counted ? first : counted)
-    counted = behind
+    page_end = int((number($4) + number($3) + 4095) / 4096)
+    pages += page_end - (first > counted_end ? first : counted_end)
+    counted_end = page_end
 }
 
 END {

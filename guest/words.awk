@@ -1,12 +1,12 @@
-# What guest/build says of a compiler's and a linker's messages: words, with what to do instead, in the place of those
-# that a guest's author can do nothing with, and the others as they are.
+# Prints a compiler's and a linker's messages for guest/build. Messages that wouldn't help a guest's author are replaced
+# by others that say what to do; the rest stay as they are.
 #
 #   awk -f words.awk gaps [FILE.su..] messages
 #
-# gaps is guest/gaps; the files .su are what gcc's -fstack-usage wrote. The variable libc is 1 with a C library.
+# gaps is guest/gaps; gcc's -fstack-usage wrote the files .su. The variable libc is 1 if there is a C library.
 
-# say HEAD TEXT: in lines of up to 118 columns, the first behind HEAD
-function say(head, text, parts, k, n, line, begin) {
+# print_wrapped HEAD TEXT: prints lines of up to 118 columns, the first one after HEAD
+function print_wrapped(head, text, parts, k, n, line, begin) {
     n = split(text, parts, " ")
     line = begin = head
     for (k = 1; k <= n; k++) {
@@ -19,11 +19,11 @@ function say(head, text, parts, k, n, line, begin) {
     print line
 }
 
-# A message's first lines are held back until it is known whether words stand in its place.
+# The first lines of a message are pending until it is known whether the message is replaced.
 function flush() {
-    if (held != "")
-        print held
-    held = ""
+    if (pending != "")
+        print pending
+    pending = ""
 }
 
 function plain_name(name) {
@@ -32,7 +32,7 @@ function plain_name(name) {
     return name
 }
 
-# What stands in quotes behind what the pattern finds.
+# Returns the text in quotes after the match of the pattern.
 function quoted(pattern, name) {
     name = $0
     sub(".*" pattern "[`']", "", name)
@@ -49,7 +49,7 @@ function missing(name, where) {
     names[++count] = name
 }
 
-# Whether nothing but what is in gaps was missing so far.
+# Whether all names that were missing so far are in gaps.
 function all_known(k) {
     for (k = 1; k <= count; k++)
         if (!(names[k] in gap))
@@ -57,10 +57,10 @@ function all_known(k) {
     return count > 0
 }
 
-function thousands(number, left) {
-    for (left = ""; length(number) > 3; number = substr(number, 1, length(number) - 3))
-        left = "," substr(number, length(number) - 2) left
-    return number left
+function thousands(number, suffix) {
+    for (suffix = ""; length(number) > 3; number = substr(number, 1, length(number) - 3))
+        suffix = "," substr(number, length(number) - 2) suffix
+    return number suffix
 }
 
 FNR == 1 { part = FILENAME ~ /gaps$/ ? "gaps" : FILENAME ~ /\.su$/ ? "stacks" : "messages" }
@@ -85,43 +85,43 @@ part == "stacks" {
     next
 }
 
-# behind a header that isn't for this machine nothing else means anything
+# after a header that isn't for this machine, no message means anything
 stop { next }
 
-# gcc and ld say in which function something is, before they say what
+# gcc and ld print the function's name before the message
 /: [Ii]n function [`']/ {
     flush()
-    held = $0
-    inside = quoted("[Ii]n function ")
-    library = /\.a\([^)]*\): in function/ ? inside : ""
+    pending = $0
+    function_name = quoted("[Ii]n function ")
+    library = /\.a\([^)]*\): in function/ ? function_name : ""
     next
 }
 
-# what gcc shows of the program, below a message that isn't shown
+# the lines of source that gcc prints below a message that isn't printed
 skipped && (/^ *[0-9]* \|/ || skipped++ < 3 && clang) { next }
 { skipped = 0 }
 
 /frame size.*(larger than|exceeds limit)/ {
-    held = ""
+    pending = ""
     match($0, /[0-9]+( bytes is larger|\) exceeds)/)
     size = substr($0, RSTART, RLENGTH) + 0
     clang = /exceeds limit/
     if (clang)
-        inside = quoted("exceeds limit [^']*in ")
+        function_name = quoted("exceeds limit [^']*in ")
     where = $0
     sub(/:[0-9]+: error: .*/, "", where)
-    if (inside in line_of)
-        where = line_of[inside]
-    say("build:", where ": the function " inside " has " thousands(size) " bytes of variables, more than 49,152 bytes.")
+    if (function_name in line_of)
+        where = line_of[function_name]
+    print_wrapped("build:", where ": the function " function_name " has " thousands(size) " bytes of variables, more than 49,152 bytes.")
     stacks = skipped = 1
     next
 }
 /some warnings being treated as errors|^[0-9]+ errors? generated/ && stacks { next }
 
-# lld says behind a name who wants it: the file, and then the object with the function
+# after an undefined name, lld prints the file that uses it, then the object with the function
 /undefined symbol: / {
-    wanted = $0
-    sub(/.*undefined symbol: /, "", wanted)
+    undefined_name = $0
+    sub(/.*undefined symbol: /, "", undefined_name)
     next
 }
 /^>>> referenced by / { user = $4; next }
@@ -129,17 +129,17 @@ skipped && (/^ *[0-9]* \|/ || skipped++ < 3 && clang) { next }
     where = user
     if (match($0, /:\([a-zA-Z_][a-zA-Z_0-9]*\)$/))
         where = user ", in " substr($0, RSTART + 2, RLENGTH - 3)
-    if (wanted == "main" || wanted == "_start")
+    if (undefined_name == "main" || undefined_name == "_start")
         no_start = 1
     else
-        missing(wanted, where)
+        missing(undefined_name, where)
     next
 }
-/^$/ && wanted { next }
+/^$/ && undefined_name { next }
 
 /more undefined references to / { next }
 /undefined reference to / {
-    held = where = ""
+    pending = where = ""
     name = quoted("undefined reference to ")
     if (library == "") {
         where = $0
@@ -158,9 +158,9 @@ skipped && (/^ *[0-9]* \|/ || skipped++ < 3 && clang) { next }
 /cannot find entry symbol/ { no_start = 1; next }
 /^>>> / || /collect2: error: ld returned|error: (linker|ld\.lld) command failed/ { next }
 
-# who includes what isn't there: the last of these lines has the program's own file
+# the files that include a missing header: the last of these lines has the program's own file
 /^In file included from |^ +from [^ ]+:[0-9]+[,:]$/ {
-    held = held (held == "" ? "" : "\n") $0
+    pending = pending (pending == "" ? "" : "\n") $0
     includer = $NF
     sub(/[,:]$/, "", includer)
     next
@@ -178,18 +178,18 @@ skipped && (/^ *[0-9]* \|/ || skipped++ < 3 && clang) { next }
         stop = 1
     }
     if (name in gap) {
-        missing(name, held == "" ? where : includer)
-        held = ""
+        missing(name, pending == "" ? where : includer)
+        pending = ""
         skipped = 1
         next
     }
 }
-# the linker will say it, or it isn't used
+# the linker reports it too, if it is used
 /warning: implicit declaration of function '/ {
     name = quoted("implicit declaration of function ")
     if (name in gap) {
         match($0, /^[^:]*:[0-9]+/)
-        held = ""
+        pending = ""
         skipped = 1
         implicit[++unseen] = name
         place[unseen] = substr($0, RSTART, RLENGTH)
@@ -197,7 +197,7 @@ skipped && (/^ *[0-9]* \|/ || skipped++ < 3 && clang) { next }
     }
 }
 /makes pointer from integer without a cast/ && unseen && index($0, place[unseen] ":") == 1 {
-    held = ""
+    pending = ""
     skipped = 1
     next
 }
@@ -207,7 +207,7 @@ skipped && (/^ *[0-9]* \|/ || skipped++ < 3 && clang) { next }
     match($0, /^[^:]*:[0-9]+/)
     where = substr($0, RSTART, RLENGTH)
     if (name in gap) {
-        held = ""
+        pending = ""
         skipped = 1
         missing(name, where)
         next
@@ -218,9 +218,9 @@ skipped && (/^ *[0-9]* \|/ || skipped++ < 3 && clang) { next }
 
 /multiple definition of / {
     name = quoted("multiple definition of ")
-    held = ""
+    pending = ""
     if (!twice[name]++)
-        say("build:", name " is there twice. malloc, free and their like, exit, and what is of stdio.h and pthread.h are guest/lib's: a program can't have its own.")
+        print_wrapped("build:", name " is there twice. malloc, free and their like, exit, and what is of stdio.h and pthread.h are guest/lib's: a program can't have its own.")
     next
 }
 
@@ -228,9 +228,9 @@ skipped && (/^ *[0-9]* \|/ || skipped++ < 3 && clang) { next }
 /__int128' is not supported|__int128 is not supported/ { wide = 1 }
 
 /a guest has at most 1,024 pages/ {
-    held = ""
+    pending = ""
     sub(/.*a guest has/, "a guest has")
-    say("build:", $0 ".")
+    print_wrapped("build:", $0 ".")
     next
 }
 
@@ -256,19 +256,19 @@ END {
         listed[group] = listed[group] (listed[group] == "" ? "" : ", ") name (first[name] == "" ? "" : " (" where ")")
     }
     for (k = 1; k <= all; k++) {
-        say("build:", "not there: " listed[groups[k]] ".")
-        say("      ", words[groups[k]])
+        print_wrapped("build:", "not there: " listed[groups[k]] ".")
+        print_wrapped("      ", words[groups[k]])
     }
     if (no_start)
-        say("build:", "there is nothing to start: a guest has a function main, and without --libc it includes ithreads.h.")
+        print_wrapped("build:", "there is nothing to start: a guest has a function main, and without --libc it includes ithreads.h.")
     if (stacks || unknown_length)
-        say("build:", "a thread's stack has 65,536 bytes, and stacks lie one upon the other: a thread that needs more writes into the stack of the thread before it, and nothing says so. Of an array whose length is known only when the guest runs, and of alloca, nobody looks after the size. Make large arrays static, or take them from malloc.")
+        print_wrapped("build:", "a thread's stack has 65,536 bytes, and stacks lie one upon the other: a thread that needs more writes into the stack of the thread before it, and nothing says so. Of an array whose length is known only when the guest runs, and of alloca, nobody looks after the size. Make large arrays static, or take them from malloc.")
     if (header && !libc && !all)
-        say("build:", "without --libc there are ithreads.h and the headers that come with clang, and no C library.")
+        print_wrapped("build:", "without --libc there are ithreads.h and the headers that come with clang, and no C library.")
     if (foreign)
-        say("build:", "a guest has the instructions of RV32I, and with --march rv32im those of RV32IM. Write in C what another processor has instructions for.")
+        print_wrapped("build:", "a guest has the instructions of RV32I, and with --march rv32im those of RV32IM. Write in C what another processor has instructions for.")
     if (wide)
-        say("build:", "a number has 64 bits at most. Put a larger one together from several.")
+        print_wrapped("build:", "a number has 64 bits at most. Put a larger one together from several.")
     if (undeclared)
-        say("build:", "of POSIX threads, a guest has what guest/include/pthread.h declares.")
+        print_wrapped("build:", "of POSIX threads, a guest has what guest/include/pthread.h declares.")
 }

@@ -1,6 +1,6 @@
-# Puts the countdown of `guest/build --yield-every` into what gcc wrote: at the head of each loop, which is a label that
-# something below it jumps to; at the begin of each function; and before each jump to where a register says. gcc leaves
-# t5 and t6 to it. It takes the file twice: awk -f yields.awk FILE.s FILE.s
+# Inserts the countdown of `guest/build --yield-every` into gcc's assembly: at the head of each loop, which is a label
+# that a later instruction jumps to; at the start of each function; and before each indirect jump. gcc doesn't use t5
+# and t6, which are for the countdown. The file is read twice: awk -f yields.awk FILE.s FILE.s
 function countdown() {
     print "\tlui\tt6,%tprel_hi(it_countdown)"
     print "\tadd\tt6,t6,tp,%tprel_add(it_countdown)"

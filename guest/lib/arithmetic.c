@@ -8,18 +8,18 @@
 
 #include "library.h"
 
-unsigned long long __udivdi3(unsigned long long number, unsigned long long by);
-unsigned long long __umoddi3(unsigned long long number, unsigned long long by);
-long long __divdi3(long long number, long long by);
-long long __moddi3(long long number, long long by);
+unsigned long long __udivdi3(unsigned long long number, unsigned long long divisor);
+unsigned long long __umoddi3(unsigned long long number, unsigned long long divisor);
+long long __divdi3(long long number, long long divisor);
+long long __moddi3(long long number, long long divisor);
 
 #ifndef __riscv_mul
 
 unsigned __mulsi3(unsigned a, unsigned b);
-unsigned __udivsi3(unsigned number, unsigned by);
-unsigned __umodsi3(unsigned number, unsigned by);
-int __divsi3(int number, int by);
-int __modsi3(int number, int by);
+unsigned __udivsi3(unsigned number, unsigned divisor);
+unsigned __umodsi3(unsigned number, unsigned divisor);
+int __divsi3(int number, int divisor);
+int __modsi3(int number, int divisor);
 unsigned long long __muldi3(unsigned long long a, unsigned long long b);
 
 /* ---------------------------------------------------------------------------------------------- products ---- */
@@ -124,61 +124,61 @@ unsigned long long __muldi3(unsigned long long a, unsigned long long b)
 
 /* ---------------------------------------------------------------------------------------- quotients of 32 bits ---- */
 
-static inline unsigned divided(unsigned number, unsigned by, unsigned *remainder)
+static inline unsigned divide(unsigned number, unsigned divisor, unsigned *remainder)
 {
     unsigned quotient = 0, bit = 1;
-    if (by == 10)
-        return it_tenth(number, remainder);
-    if (by == 16) {
+    if (divisor == 10)
+        return it_div10(number, remainder);
+    if (divisor == 16) {
         *remainder = number & 15;
         return number >> 4;
     }
-    if (by == 0) {
+    if (divisor == 0) {
         *remainder = number;
         return ~0u;
     }
-    while (by < number && !(by >> 31)) {
-        by <<= 1;
+    while (divisor < number && !(divisor >> 31)) {
+        divisor <<= 1;
         bit <<= 1;
     }
-    for (; bit; bit >>= 1, by >>= 1)
-        if (number >= by) {
-            number -= by;
+    for (; bit; bit >>= 1, divisor >>= 1)
+        if (number >= divisor) {
+            number -= divisor;
             quotient |= bit;
         }
     *remainder = number;
     return quotient;
 }
 
-unsigned __udivsi3(unsigned number, unsigned by)
+unsigned __udivsi3(unsigned number, unsigned divisor)
 {
     unsigned remainder;
-    return divided(number, by, &remainder);
+    return divide(number, divisor, &remainder);
 }
 
-unsigned __umodsi3(unsigned number, unsigned by)
+unsigned __umodsi3(unsigned number, unsigned divisor)
 {
     unsigned remainder;
-    divided(number, by, &remainder);
+    divide(number, divisor, &remainder);
     return remainder;
 }
 
-static unsigned size_of(int number)
+static unsigned magnitude(int number)
 {
     return number < 0 ? 0u - (unsigned)number : (unsigned)number;
 }
 
 /* C's quotient is rounded towards zero, and the remainder has the sign of the number. */
-int __divsi3(int number, int by)
+int __divsi3(int number, int divisor)
 {
-    unsigned remainder, quotient = divided(size_of(number), size_of(by), &remainder);
-    return by && (number < 0) != (by < 0) ? (int)(0u - quotient) : (int)quotient;
+    unsigned remainder, quotient = divide(magnitude(number), magnitude(divisor), &remainder);
+    return divisor && (number < 0) != (divisor < 0) ? (int)(0u - quotient) : (int)quotient;
 }
 
-int __modsi3(int number, int by)
+int __modsi3(int number, int divisor)
 {
     unsigned remainder;
-    divided(size_of(number), size_of(by), &remainder);
+    divide(magnitude(number), magnitude(divisor), &remainder);
     return number < 0 ? (int)(0u - remainder) : (int)remainder;
 }
 
@@ -187,13 +187,13 @@ int __modsi3(int number, int by)
 /* ---------------------------------------------------------------------------------------- quotients of 64 bits ---- */
 
 /* A tenth, from 16 bits of the number at a time. */
-static unsigned long long tenth_long(unsigned long long number, unsigned *remainder)
+static unsigned long long div10_long(unsigned long long number, unsigned *remainder)
 {
-    unsigned high = (unsigned)(number >> 32), low = (unsigned)number, parts[4], left = 0;
+    unsigned high = (unsigned)(number >> 32), low = (unsigned)number, parts[4], rest = 0;
     const unsigned digits[4] = { high >> 16, high & 0xFFFF, low >> 16, low & 0xFFFF };
     for (unsigned k = 0; k < 4; k++)
-        parts[k] = it_tenth(left << 16 | digits[k], &left);
-    *remainder = left;
+        parts[k] = it_div10(rest << 16 | digits[k], &rest);
+    *remainder = rest;
     return (unsigned long long)(parts[0] << 16 | parts[1]) << 32 | (parts[2] << 16 | parts[3]);
 }
 
@@ -201,58 +201,60 @@ static unsigned long long tenth_long(unsigned long long number, unsigned *remain
 
 /* Quotients of 32 bits, by 0 and by 10 are computed here, and all others by the compiler's function: the linker
    redirects other calls of it to __wrap___udivdi3. */
-unsigned long long __real___udivdi3(unsigned long long number, unsigned long long by);
-unsigned long long __wrap___udivdi3(unsigned long long number, unsigned long long by);
+unsigned long long __real___udivdi3(unsigned long long number, unsigned long long divisor);
+unsigned long long __wrap___udivdi3(unsigned long long number, unsigned long long divisor);
 #define __udivdi3 __wrap___udivdi3
 
-static unsigned long long divided_long(unsigned long long number, unsigned long long by, unsigned long long *remainder)
+static unsigned long long divide_long(unsigned long long number, unsigned long long divisor,
+                                      unsigned long long *remainder)
 {
     unsigned long long quotient;
-    unsigned left;
-    if (by == 0) {
+    unsigned rest;
+    if (divisor == 0) {
         *remainder = number;
         return ~0ull;
     }
-    if (!((number | by) >> 32)) {
-        *remainder = (unsigned)number % (unsigned)by;
-        return (unsigned)number / (unsigned)by;
+    if (!((number | divisor) >> 32)) {
+        *remainder = (unsigned)number % (unsigned)divisor;
+        return (unsigned)number / (unsigned)divisor;
     }
-    if (by == 10) {
-        quotient = tenth_long(number, &left);
-        *remainder = left;
+    if (divisor == 10) {
+        quotient = div10_long(number, &rest);
+        *remainder = rest;
         return quotient;
     }
-    quotient = __real___udivdi3(number, by);
-    *remainder = number - quotient * by;
+    quotient = __real___udivdi3(number, divisor);
+    *remainder = number - quotient * divisor;
     return quotient;
 }
 
 #else
 
-static unsigned long long divided_long(unsigned long long number, unsigned long long by, unsigned long long *remainder)
+static unsigned long long divide_long(unsigned long long number, unsigned long long divisor,
+                                      unsigned long long *remainder)
 {
     unsigned long long quotient = 0, bit = 1;
-    unsigned left;
-    if (!((number | by) >> 32)) {
-        quotient = divided((unsigned)number, (unsigned)by, &left);
-        *remainder = left;
-        return by ? quotient : ~0ull;
+    unsigned rest;
+    if (!((number | divisor) >> 32)) {
+        quotient = divide((unsigned)number, (unsigned)divisor, &rest);
+        *remainder = rest;
+        return divisor ? quotient : ~0ull;
     }
-    if (by == 10) {
-        quotient = tenth_long(number, &left);
-        *remainder = left;
+    if (divisor == 10) {
+        quotient = div10_long(number, &rest);
+        *remainder = rest;
         return quotient;
     }
     *remainder = number;
-    if (by == 0)
+    if (divisor == 0)
         return ~0ull;
-    while (by < number && !(by >> 63)) {
-        by <<= 1;
+    while (divisor < number && !(divisor >> 63)) {
+        divisor <<= 1;
         bit <<= 1;
     }
-    for (; bit; bit >>= 1, by >>= 1)
-        if (number >= by) {
-            number -= by;
+    for (; bit; bit >>= 1, divisor >>= 1)
+        if (number >= divisor) {
+            number -= divisor;
             quotient |= bit;
         }
     *remainder = number;
@@ -261,33 +263,33 @@ static unsigned long long divided_long(unsigned long long number, unsigned long 
 
 #endif
 
-unsigned long long __udivdi3(unsigned long long number, unsigned long long by)
+unsigned long long __udivdi3(unsigned long long number, unsigned long long divisor)
 {
     unsigned long long remainder;
-    return divided_long(number, by, &remainder);
+    return divide_long(number, divisor, &remainder);
 }
 
-unsigned long long __umoddi3(unsigned long long number, unsigned long long by)
+unsigned long long __umoddi3(unsigned long long number, unsigned long long divisor)
 {
     unsigned long long remainder;
-    divided_long(number, by, &remainder);
+    divide_long(number, divisor, &remainder);
     return remainder;
 }
 
-static unsigned long long size_of_long(long long number)
+static unsigned long long magnitude_long(long long number)
 {
     return number < 0 ? 0ull - (unsigned long long)number : (unsigned long long)number;
 }
 
-long long __divdi3(long long number, long long by)
+long long __divdi3(long long number, long long divisor)
 {
-    unsigned long long remainder, quotient = divided_long(size_of_long(number), size_of_long(by), &remainder);
-    return by && (number < 0) != (by < 0) ? (long long)(0ull - quotient) : (long long)quotient;
+    unsigned long long remainder, quotient = divide_long(magnitude_long(number), magnitude_long(divisor), &remainder);
+    return divisor && (number < 0) != (divisor < 0) ? (long long)(0ull - quotient) : (long long)quotient;
 }
 
-long long __moddi3(long long number, long long by)
+long long __moddi3(long long number, long long divisor)
 {
     unsigned long long remainder;
-    divided_long(size_of_long(number), size_of_long(by), &remainder);
+    divide_long(magnitude_long(number), magnitude_long(divisor), &remainder);
     return number < 0 ? (long long)(0ull - remainder) : (long long)remainder;
 }

@@ -3,14 +3,14 @@
 #include "attributes.h"
 #include "library.h"
 
-enum { LOWEST = 1, HIGHEST = 99 }; /* priorities */
+enum { MIN_PRIORITY = 1, MAX_PRIORITY = 99 }; /* priorities */
 
 /* The result for an attribute of which one value is supported, and another is known to POSIX. */
-static int one_of_two(int asked, int taken, int refused)
+static int check_supported(int value, int supported, int unsupported)
 {
-    if (asked == taken)
+    if (value == supported)
         return 0;
-    return asked == refused ? ENOTSUP : EINVAL;
+    return value == unsupported ? ENOTSUP : EINVAL;
 }
 
 int pthread_attr_init(pthread_attr_t *attributes)
@@ -72,7 +72,7 @@ IT_ATTRIBUTE(, pthread_attr_getguardsize, pthread_attr_t, size_t, guard)
 int pthread_attr_setscope(pthread_attr_t *attributes, int scope)
 {
     (void)attributes;
-    return one_of_two(scope, PTHREAD_SCOPE_SYSTEM, PTHREAD_SCOPE_PROCESS);
+    return check_supported(scope, PTHREAD_SCOPE_SYSTEM, PTHREAD_SCOPE_PROCESS);
 }
 
 int pthread_attr_getscope(const pthread_attr_t *restrict attributes, int *restrict scope)
@@ -87,7 +87,7 @@ int pthread_mutexattr_init(pthread_mutexattr_t *attributes)
     attributes->type = PTHREAD_MUTEX_DEFAULT;
     attributes->shared = PTHREAD_PROCESS_PRIVATE;
     attributes->protocol = PTHREAD_PRIO_NONE;
-    attributes->ceiling = LOWEST;
+    attributes->ceiling = MIN_PRIORITY;
     return 0;
 }
 
@@ -124,7 +124,7 @@ IT_ATTRIBUTE(, pthread_mutexattr_getprotocol, pthread_mutexattr_t, int, protocol
 
 int pthread_mutexattr_setprioceiling(pthread_mutexattr_t *attributes, int ceiling)
 {
-    if (ceiling < LOWEST || ceiling > HIGHEST)
+    if (ceiling < MIN_PRIORITY || ceiling > MAX_PRIORITY)
         return EINVAL;
     attributes->ceiling = (signed char)ceiling;
     return 0;
@@ -134,10 +134,10 @@ IT_ATTRIBUTE(, pthread_mutexattr_getprioceiling, pthread_mutexattr_t, int, ceili
 
 int pthread_mutexattr_setpshared(pthread_mutexattr_t *attributes, int shared)
 {
-    int answer = it_process(shared);
-    if (answer == 0)
+    int result = it_check_pshared(shared);
+    if (result == 0)
         attributes->shared = (short)shared;
-    return answer;
+    return result;
 }
 
 IT_ATTRIBUTE(, pthread_mutexattr_getpshared, pthread_mutexattr_t, int, shared)

@@ -6,9 +6,9 @@
 #include <pthread.h>
 
 /* There is one process, so sharing an object between processes changes nothing. */
-static inline int it_process(int asked)
+static inline int it_check_pshared(int value)
 {
-    return asked == PTHREAD_PROCESS_PRIVATE || asked == PTHREAD_PROCESS_SHARED ? 0 : EINVAL;
+    return value == PTHREAD_PROCESS_PRIVATE || value == PTHREAD_PROCESS_SHARED ? 0 : EINVAL;
 }
 
 /* A function that gets an attribute; `replaceable` is IT_REPLACEABLE or empty. */
@@ -29,10 +29,10 @@ static inline int it_process(int asked)
     }                                                                                                                  \
     replaceable int pthread_##kind##_setpshared(pthread_##kind##_t *attributes, int shared)                            \
     {                                                                                                                  \
-        int answer = it_process(shared);                                                                               \
-        if (answer == 0)                                                                                               \
+        int result = it_check_pshared(shared);                                                                         \
+        if (result == 0)                                                                                               \
             attributes->shared = shared;                                                                               \
-        return answer;                                                                                                 \
+        return result;                                                                                                 \
     }                                                                                                                  \
     IT_ATTRIBUTE(replaceable, pthread_##kind##_getpshared, pthread_##kind##_t, int, shared)
 

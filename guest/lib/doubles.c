@@ -6,12 +6,12 @@
    before. */
 #include <stdint.h>
 
-enum { OF_EACH = 2, WORDS = 34, WHOLE_DIGITS = 310, MANTISSA = 52, BIAS = 1075, SPECIAL = 2047 };
+enum { BASE_COST = 2, WORDS = 34, INTEGER_DIGITS = 310, MANTISSA = 52, BIAS = 1075, SPECIAL = 2047 };
 
 /* A double without its sign. */
 struct parts {
-    unsigned char digits[WHOLE_DIGITS];
-    unsigned at, end, part[WORDS], words;
+    unsigned char digits[INTEGER_DIGITS];
+    unsigned next, end, fraction[WORDS], words;
 };
 
 #define AFTER_WORDS(parts, count) (void)0
@@ -23,14 +23,14 @@ typedef unsigned word;
 unsigned long long __real___atod_engine(word a, word b, word c, word d, word e, word f, word g, word h);
 unsigned long long __wrap___atod_engine(word a, word b, word c, word d, word e, word f, word g, word h)
 {
-    count_numbers(OF_EACH);
+    count_conversion(BASE_COST);
     return __real___atod_engine(a, b, c, d, e, f, g, h);
 }
 
 /* ------------------------------------------------------------------------------------------- a double in parts ---- */
 
 /* Stores a number of 64 bits into words, shifted left by `shift` bits from the end of the last. */
-static void lay(word *words, unsigned count, unsigned long long number, unsigned shift)
+static void store_shifted(word *words, unsigned count, unsigned long long number, unsigned shift)
 {
     for (unsigned k = 0; k < count; k++)
         words[k] = 0;
@@ -45,25 +45,27 @@ static void lay(word *words, unsigned count, unsigned long long number, unsigned
 /* The parts of mantissa * 2^exponent. */
 static void split(struct parts *parts, unsigned long long mantissa, int exponent)
 {
-    word whole[WORDS];
-    unsigned words = 2, below = exponent < 0 ? (unsigned)-exponent : 0;
-    parts->words = (below + 31) / 32;
+    word integer_words[WORDS];
+    unsigned words = 2, fraction_bits = exponent < 0 ? (unsigned)-exponent : 0;
+    parts->words = (fraction_bits + 31) / 32;
     if (exponent >= 0) {
         words = ((unsigned)exponent + MANTISSA + 32) / 32 + 1;
-        lay(whole, words, mantissa, (unsigned)exponent);
+        store_shifted(integer_words, words, mantissa, (unsigned)exponent);
     } else {
-        unsigned long long above = below > MANTISSA ? 0 : mantissa >> below;
-        lay(whole, words, above, 0);
-        lay(parts->part, parts->words, mantissa - (below > MANTISSA ? 0 : above << below), 32 * parts->words - below);
+        unsigned long long integer = fraction_bits > MANTISSA ? 0 : mantissa >> fraction_bits;
+        store_shifted(integer_words, words, integer, 0);
+        store_shifted(parts->fraction, parts->words,
+                      mantissa - (fraction_bits > MANTISSA ? 0 : integer << fraction_bits),
+                      32 * parts->words - fraction_bits);
     }
-    whole_digits(parts, whole, words);
+    integer_digits(parts, integer_words, words);
 }
 
 /* Whether to round up the digit before `digit`: if `digit` and what follows are more than half of its unit, or half of
    it and it is odd. */
 static bool rounds_up(const struct parts *parts, unsigned digit, bool odd)
 {
-    return digit > 5 || (digit == 5 && (odd || !is_zero(parts)));
+    return digit > 5 || (digit == 5 && (odd || !rest_is_zero(parts)));
 }
 
 /* ---------------------------------------------------------------------------------------- the C library's call ---- */
@@ -89,14 +91,14 @@ static int add_one(char *digits, int count)
     return 1;
 }
 
-/* Writes the digits, at most `most`, with fixed_point only up to `decimals` after the point. Returns their number. */
-static int round_digits(struct dtoa *to, struct parts *parts, int most, bool fixed_point, int decimals)
+/* Writes the digits, at most `max`, with fixed_point only up to `decimals` after the point. Returns their number. */
+static int round_digits(struct dtoa *to, struct parts *parts, int max, bool fixed_point, int decimals)
 {
-    int exponent = (int)(parts->end - parts->at) - 1, count = 0;
+    int exponent = (int)(parts->end - parts->next) - 1, count = 0;
     unsigned first = next_digit(parts);
     for (; !first; exponent--)
         first = next_digit(parts);
-    int wanted = fixed_point && exponent + 1 + decimals < most ? exponent + 1 + decimals : most;
+    int wanted = fixed_point && exponent + 1 + decimals < max ? exponent + 1 + decimals : max;
     if (wanted <= 0) { /* all digits are below the last place, which becomes 1 if they are over half of it */
         to->exp = -decimals;
         to->digits[0] = wanted == 0 && rounds_up(parts, first, false) ? '1' : '0';
@@ -106,30 +108,30 @@ static int round_digits(struct dtoa *to, struct parts *parts, int most, bool fix
     to->digits[count++] = (char)('0' + first);
     while (count < wanted)
         to->digits[count++] = (char)('0' + next_digit(parts));
-    unsigned behind = next_digit(parts);
-    if (rounds_up(parts, behind, to->digits[count - 1] & 1))
+    unsigned next = next_digit(parts);
+    if (rounds_up(parts, next, to->digits[count - 1] & 1))
         to->exp += add_one(to->digits, count);
     while (count > 1 && to->digits[count - 1] == '0')
         count--;
     return count;
 }
 
-/* All between 1e-22 and 1e20 have the same share: else an edit that makes a number longer would shift steps. */
-static unsigned share_of(const struct parts *parts)
+/* All between 1e-22 and 1e20 have the same cost: else an edit that makes a number longer would shift steps. */
+static unsigned cost_of(const struct parts *parts)
 {
-    unsigned digits = parts->end - parts->at;
+    unsigned digits = parts->end - parts->next;
     if (parts->words <= 4 && digits <= 20)
-        return OF_EACH;
-    return OF_EACH + parts->words * parts->words / 4 + digits * digits / 256;
+        return BASE_COST;
+    return BASE_COST + parts->words * parts->words / 4 + digits * digits / 256;
 }
 
-int __dtoa_engine(double number, struct dtoa *to, int most, bool fixed_point, int decimals)
+int __dtoa_engine(double number, struct dtoa *to, int max, bool fixed_point, int decimals)
 {
-    union { double number; unsigned long long bits; } as = { number };
-    unsigned biased = (unsigned)(as.bits >> MANTISSA) & SPECIAL;
-    unsigned long long mantissa = as.bits & ((1ull << MANTISSA) - 1);
+    union { double number; unsigned long long bits; } u = { number };
+    unsigned biased = (unsigned)(u.bits >> MANTISSA) & SPECIAL;
+    unsigned long long mantissa = u.bits & ((1ull << MANTISSA) - 1);
     struct parts parts;
-    to->flags = as.bits >> 63 ? MINUS : 0;
+    to->flags = u.bits >> 63 ? MINUS : 0;
     if (biased == SPECIAL) {
         to->flags |= mantissa ? NOT_A_NUMBER : INFINITE;
         return 0;
@@ -145,6 +147,6 @@ int __dtoa_engine(double number, struct dtoa *to, int most, bool fixed_point, in
     else
         biased = 1;
     split(&parts, mantissa, (int)biased - BIAS);
-    count_numbers(share_of(&parts));
-    return round_digits(to, &parts, most, fixed_point, decimals);
+    count_conversion(cost_of(&parts));
+    return round_digits(to, &parts, max, fixed_point, decimals);
 }

@@ -6,13 +6,13 @@
 #include "library.h"
 
 /* The code that a shell reports for a program ended by SIGABRT: 128 + 6. */
-enum { ABORTED = 134, HANDLERS = 64 };
+enum { ABORT_CODE = 134, MAX_HANDLERS = 64 };
 
 /* The handlers that exit calls. A program without atexit doesn't have this section either: the linker's script sees
    from its size whether there are handlers. */
 static __attribute__((section(".bss.it_handlers"))) struct IT_PAGE_ALIGNED {
     unsigned count;
-    void (*function[HANDLERS])(void);
+    void (*function[MAX_HANDLERS])(void);
 } handlers;
 
 extern void (*const it_destructors[])(void), (*const it_destructors_end[])(void);
@@ -26,15 +26,15 @@ static void run_handlers(void)
 
 int atexit(void (*function)(void))
 {
-    int answer = -1;
+    int result = -1;
     it_shared.run_handlers = run_handlers;
     it_lock_library();
-    if (handlers.count < HANDLERS) {
+    if (handlers.count < MAX_HANDLERS) {
         handlers.function[handlers.count++] = function;
-        answer = 0;
+        result = 0;
     }
     it_unlock_library();
-    return answer;
+    return result;
 }
 
 void _exit(int code)
@@ -60,7 +60,7 @@ void exit(int code)
         it_shared.run_handlers();
     for (void (*const *each)(void) = it_destructors_end; each != it_destructors;)
         (*--each)();
-    it_settle();
+    it_finish_io();
     _exit(code);
 }
 
@@ -74,16 +74,16 @@ static inline void raise_abort(void)
 void abort(void)
 {
     raise_abort();
-    it_end_by("abort was called");
+    it_abort_with("abort was called");
 }
 
-void it_end_by(const char *message)
+void it_abort_with(const char *message)
 {
     fputs("guest ended: ", stderr);
     fputs(message, stderr);
     fputs("\n", stderr);
-    it_settle();
-    _exit(ABORTED);
+    it_finish_io();
+    _exit(ABORT_CODE);
 }
 
 void __assert_func(const char *file, int line, const char *function, const char *expression)
@@ -91,8 +91,8 @@ void __assert_func(const char *file, int line, const char *function, const char 
     const char *inside = function ? function : "", *colon = function ? ": " : "";
     fprintf(stderr, "%s:%d: %s%sAssertion `%s' failed.\n", file, line, inside, colon, expression);
     raise_abort();
-    it_settle();
-    _exit(ABORTED);
+    it_finish_io();
+    _exit(ABORT_CODE);
 }
 
 /* The last thread that ends calls exit(0), as POSIX requires. Only in a guest with handlers it must be known which
@@ -100,14 +100,14 @@ void __assert_func(const char *file, int line, const char *function, const char 
    finds it 0, needs no memory that threads share. */
 void it_end_thread(void *value)
 {
-    if (it_self.leave_keys)
-        it_self.leave_keys();
-    if (it_self.leave_heap)
-        it_self.leave_heap();
-    if (it_self.settle)
-        it_settle();
-    if (it_has_handlers && it_call(IT_CALL_SEM_TRYWAIT, IT_OTHERS, 0) != 0)
+    if (it_self.run_key_destructors)
+        it_self.run_key_destructors();
+    if (it_self.release_heap)
+        it_self.release_heap();
+    if (it_self.io_pending)
+        it_finish_io();
+    if (it_has_handlers && it_call(IT_CALL_SEM_TRYWAIT, IT_OTHER_THREADS, 0) != 0)
         exit(0);
-    it_tell_end();
+    it_record_end();
     it_last_call(IT_CALL_THREAD_EXIT, (unsigned)value);
 }

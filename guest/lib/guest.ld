@@ -1,6 +1,6 @@
-/* Where a guest with a C library stands in memory. Code, constants and data are on pages of their own, so that a store
-   to data never reaches a page that code or constants are read from. Behind the data are what each thread has for
-   itself, and the heap: all that the machine leaves of its 1,024 pages, where the program takes any memory from it. */
+/* The memory of a guest with a C library. Code, constants and data are on pages of their own, so that a store to data
+   never reaches a page that code or constants are read from. After the data come the threads' blocks of thread-local
+   data, and, if the program allocates memory, the heap: the rest of the machine's 1,024 pages. */
 ENTRY(_start)
 
 PHDRS
@@ -34,8 +34,8 @@ SECTIONS
         KEEP(*(.fini_array))
         it_destructors_end = .;
     } :constants
-    /* What the threads' own data begins with: each thread's block gets a copy. It begins at a page, as the blocks do,
-       so that what is aligned here is aligned there. */
+    /* The initial values of thread-local data: each thread's block gets a copy. They begin at a page, as the blocks do,
+       so that the alignment is the same in both. */
     . = ALIGN(4096);
     it_own_image = .;
     .tdata : { *(.tdata .tdata.*) } :constants :tls
@@ -49,8 +49,8 @@ SECTIONS
         __global_pointer$ = . + 0x800;
         *(.sdata .sdata.*)
     } :data
-    /* these are there where the program has handlers that exit is to call, and where it takes memory: their size says
-       so */
+    /* the size of the first isn't 0 if the program has handlers that exit calls, that of the second if it allocates
+       memory */
     .it_handlers (NOLOAD) : { *(.bss.it_handlers) } :data
     .it_takes_memory (NOLOAD) : { *(.bss.it_takes_memory) } :data
     .bss (NOLOAD) : {
@@ -70,6 +70,6 @@ SECTIONS
     it_heap_end = it_heap + SIZEOF(.it_heap);
     ASSERT(it_heap_end <= it_image_end, "a guest has at most 1,024 pages, and this has more: its arrays are too large")
 
-    /* .debug_aranges has empty places for what was left out, and llvm-symbolizer complains of each */
+    /* .debug_aranges has an empty range for each omitted section, and llvm-symbolizer warns about each */
     /DISCARD/ : { *(.comment .note .note.* .eh_frame .eh_frame_hdr .riscv.attributes .debug_aranges) }
 }

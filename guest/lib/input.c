@@ -17,7 +17,7 @@
 static int get_byte(FILE *stream);
 static __off_t seek(FILE *stream, __off_t offset, int whence);
 
-static int stay(FILE *stream)
+static int keep_open(FILE *stream)
 {
     (void)stream;
     return 0;
@@ -33,19 +33,19 @@ static int no_buffer(FILE *stream, char *buffer, int mode, size_t size)
    all threads that read them, so they have a page. */
 static struct IT_PAGE_ALIGNED {
     struct __file_ext stream;
-    unsigned at, end;
-} input = { FDEV_SETUP_EXT(NULL, get_byte, NULL, stay, seek, no_buffer, __SRD), 0, 0 };
+    unsigned next, end;
+} input = { FDEV_SETUP_EXT(NULL, get_byte, NULL, keep_open, seek, no_buffer, __SRD), 0, 0 };
 FILE *const stdin = &input.stream.cfile.file;
 
-static void hold(void)
+static void lock_stdin(void)
 {
-    if (!it_shared.threads_made || it_self.holds_stdin)
+    if (!it_shared.threads_created || it_self.holds_stdin)
         return;
     it_call(IT_CALL_LOCK, it_number_or_end(IT_MUTEX, &input), 0);
-    it_self.holds_stdin = it_self.settle = 1;
+    it_self.holds_stdin = it_self.io_pending = 1;
 }
 
-void it_give_up_stdin(void)
+void it_unlock_stdin(void)
 {
     if (!it_self.holds_stdin)
         return;
@@ -54,35 +54,35 @@ void it_give_up_stdin(void)
 }
 
 /* Whether there is another byte. */
-static int more(void)
+static int fill_input(void)
 {
-    if (input.at < input.end)
+    if (input.next < input.end)
         return 1;
     it_call(IT_CALL_YIELD, 0, 0);
-    unsigned length = it_input_length(), end = (input.at & ~(IT_PAGE - 1u)) + IT_PAGE;
+    unsigned length = it_input_length(), end = (input.next & ~(IT_PAGE - 1u)) + IT_PAGE;
     input.end = length < end ? length : end;
     it_call(IT_CALL_YIELD, 0, 0);
-    return input.at < input.end;
+    return input.next < input.end;
 }
 
 static int get_byte(FILE *stream)
 {
     (void)stream;
-    hold();
-    return more() ? it_input()[input.at++] : _FDEV_EOF;
+    lock_stdin();
+    return fill_input() ? it_input()[input.next++] : _FDEV_EOF;
 }
 
 /* ---------------------------------------------------------------------------------------------- bytes ---- */
 
 /* `unget` has the byte of ungetc, with a bit set above it. */
-enum { GIVEN_BACK = 0x100 };
+enum { HAS_UNGET = 0x100 };
 
-static IT_NOINLINE int get_slowly(FILE *stream)
+static IT_NOINLINE int get_slow(FILE *stream)
 {
     if (!(stream->flags & __SRD))
         return EOF;
     if (stream == stdin)
-        hold();
+        lock_stdin();
     if (stream->unget) {
         int byte = (unsigned char)stream->unget;
         stream->unget = 0;
@@ -98,9 +98,9 @@ static IT_NOINLINE int get_slowly(FILE *stream)
 /* The first case is by far the most frequent: stdin has a byte ready, none from ungetc, and the thread may read. */
 int fgetc(FILE *stream)
 {
-    if (stream == stdin && input.at < input.end && !stream->unget && it_shared.threads_made == it_self.holds_stdin)
-        return it_input()[input.at++];
-    return get_slowly(stream);
+    if (stream == stdin && input.next < input.end && !stream->unget && it_shared.threads_created == it_self.holds_stdin)
+        return it_input()[input.next++];
+    return get_slow(stream);
 }
 
 int (getc)(FILE *stream)
@@ -116,42 +116,42 @@ int (getchar)(void)
 int ungetc(int byte, FILE *stream)
 {
     if (stream == stdin)
-        hold();
+        lock_stdin();
     if (byte == EOF || !(stream->flags & __SRD) || stream->unget)
         return EOF;
-    stream->unget = (__ungetc_t)((unsigned char)byte | GIVEN_BACK);
+    stream->unget = (__ungetc_t)((unsigned char)byte | HAS_UNGET);
     stream->flags &= (unsigned char)~__SEOF;
     return (unsigned char)byte;
 }
 
-/* Takes at most `most` bytes of stdin that are ready without a call, up to and including the byte `stop`, unless that
+/* Takes at most `max` bytes of stdin that are ready without a call, up to and including the byte `stop`, unless that
    is EOF. Returns how many; *bytes is where they are. */
-static size_t take(size_t most, int stop, const unsigned char **bytes)
+static size_t take_buffered(size_t max, int stop, const unsigned char **bytes)
 {
-    size_t there = input.end - input.at, count = there < most ? there : most;
-    *bytes = it_input() + input.at;
+    size_t available = input.end - input.next, count = available < max ? available : max;
+    *bytes = it_input() + input.next;
     if (stop != EOF) {
         const unsigned char *found = memchr(*bytes, stop, count);
         if (found)
             count = (size_t)(found - *bytes) + 1;
     }
-    input.at += count;
+    input.next += count;
     return count;
 }
 
-/* Reads at most `most` bytes, up to and including the byte `stop`. Returns how many. */
-static size_t read_some(FILE *stream, unsigned char *to, size_t most, int stop)
+/* Reads at most `max` bytes, up to and including the byte `stop`. Returns how many. */
+static size_t read_until(FILE *stream, unsigned char *to, size_t max, int stop)
 {
     size_t done = 0;
-    while (done < most) {
-        if (stream != stdin || stream->unget || !(hold(), more())) {
+    while (done < max) {
+        if (stream != stdin || stream->unget || !(lock_stdin(), fill_input())) {
             int byte = fgetc(stream);
             if (byte == EOF)
                 break;
             to[done++] = (unsigned char)byte;
         } else {
             const unsigned char *bytes;
-            size_t count = take(most - done, stop, &bytes);
+            size_t count = take_buffered(max - done, stop, &bytes);
             memcpy(to + done, bytes, count);
             done += count;
         }
@@ -165,15 +165,15 @@ size_t fread(void *restrict to, size_t size, size_t count, FILE *restrict stream
 {
     if (size == 0 || count == 0)
         return 0;
-    size_t all = size * count, done = read_some(stream, to, all, EOF);
-    return done == all ? count : done / size;
+    size_t total = size * count, done = read_until(stream, to, total, EOF);
+    return done == total ? count : done / size;
 }
 
 char *fgets(char *restrict to, int size, FILE *restrict stream)
 {
     if (size <= 0)
         return NULL;
-    size_t done = read_some(stream, (unsigned char *)to, (size_t)size - 1, '\n');
+    size_t done = read_until(stream, (unsigned char *)to, (size_t)size - 1, '\n');
     if (done == 0 && size > 1)
         return NULL;
     to[done] = 0;
@@ -196,7 +196,7 @@ IT_REPLACEABLE ssize_t getdelim(char **restrict line, size_t *restrict size, int
             *size = wanted;
         }
         size_t room = *size - done - 1;
-        size_t count = read_some(stream, (unsigned char *)*line + done, room, (unsigned char)stop);
+        size_t count = read_until(stream, (unsigned char *)*line + done, room, (unsigned char)stop);
         done += count;
         (*line)[done] = 0;
         if (count < room || (*line)[done - 1] == (char)stop)
@@ -214,18 +214,18 @@ IT_REPLACEABLE ssize_t getline(char **restrict line, size_t *restrict size, FILE
 static __off_t seek(FILE *stream, __off_t offset, int whence)
 {
     (void)stream;
-    hold();
+    lock_stdin();
     __off_t place = offset;
     if (whence == SEEK_CUR)
-        place += (__off_t)input.at;
+        place += (__off_t)input.next;
     else if (whence == SEEK_END)
         place += (__off_t)it_input_length();
     if (place < 0) {
         errno = EINVAL;
         return -1;
     }
-    if (place != (__off_t)input.at) {
-        input.at = (unsigned)place;
+    if (place != (__off_t)input.next) {
+        input.next = (unsigned)place;
         input.end = 0;
     }
     return place;
@@ -238,5 +238,5 @@ IT_REPLACEABLE ssize_t read(int descriptor, void *bytes, size_t count)
         errno = EBADF;
         return -1;
     }
-    return (ssize_t)read_some(stdin, bytes, count, EOF);
+    return (ssize_t)read_until(stdin, bytes, count, EOF);
 }

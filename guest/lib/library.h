@@ -9,52 +9,52 @@ enum { IT_PROCESS = 1, IT_PROCESSORS = 4 }; /* what getpid and sysconf return */
 
 /* The last object of each kind is the library's: its mutex, a condition that is never signalled, and the number of
    other threads that still run. */
-enum { IT_OWN_MUTEX = 63, IT_NEVER = 63, IT_OTHERS = 63, IT_FOR_PROGRAMS = 63 };
+enum { IT_OWN_MUTEX = 63, IT_NEVER_SIGNALLED = 63, IT_OTHER_THREADS = 63, IT_PROGRAM_OBJECTS = 63 };
 
-/* A thread's own data, in its block of thread-local data. At the start of each step `settle` is 0, unless the call
-   before was the library's own: before a call of the program the library outputs all that was written, and releases
+/* A thread's own data, in its block of thread-local data. At the start of each step `io_pending` is 0, unless the call
+   before was the library's own: before a call of the program the library outputs all that was written, and unlocks
    stdin. */
 struct it_self {
-    unsigned number;               /* of the thread */
-    unsigned settle;               /* nonzero if there are bytes to output, or stdin is held */
-    unsigned char *page, *at;      /* the page being filled, and where the next byte goes */
-    unsigned char *call;           /* where the bytes of the current stdio call begin, or null */
+    unsigned number;                   /* of the thread */
+    unsigned io_pending;               /* nonzero if there are bytes to output, or stdin is locked */
+    unsigned char *page, *next;        /* the page being filled, and where the next byte goes */
+    unsigned char *call_start;         /* where the bytes of the current stdio call begin, or null */
     int holds_stdin;
-    unsigned doubles;              /* shares of numbers turned into text or back since the last call */
-    void (*leave_heap)(void);      /* called at the thread's end, or null */
-    void (*leave_keys)(void);
+    unsigned conversion_cost;          /* of the numbers turned into text or back since the last call */
+    void (*release_heap)(void);        /* called at the thread's end, or null */
+    void (*run_key_destructors)(void); /* the same */
 };
 extern _Thread_local struct it_self it_self;
 
 /* Read by all threads, on a page of its own: it hardly changes. */
 struct IT_PAGE_ALIGNED it_shared {
     /* Whether a thread has been created. It is stored before the first one exists, so all other threads see it. */
-    int threads_made;
+    int threads_created;
     void (*run_handlers)(void); /* those of atexit, or null */
 };
 extern struct it_shared it_shared;
 
-/* Outputs what is buffered, and releases stdin. */
-void it_settle(void);
+/* Outputs what is buffered, and unlocks stdin. */
+void it_finish_io(void);
 
 /* A call of the program: what the thread did before is complete for all threads that see the call. */
 static inline int it_ordered_call(enum it_call number, unsigned first, unsigned second)
 {
-    if (it_self.settle)
-        it_settle();
+    if (it_self.io_pending)
+        it_finish_io();
     return it_call(number, first, second);
 }
 
 /* The library's own mutex. While there is one thread, nothing is locked. */
 static inline void it_lock_library(void)
 {
-    if (it_shared.threads_made)
+    if (it_shared.threads_created)
         it_call(IT_CALL_LOCK, IT_OWN_MUTEX, 0);
 }
 
 static inline void it_unlock_library(void)
 {
-    if (it_shared.threads_made)
+    if (it_shared.threads_created)
         it_call(IT_CALL_UNLOCK, IT_OWN_MUTEX, 0);
 }
 
@@ -62,7 +62,7 @@ static inline void it_unlock_library(void)
 #define IT_REPLACEABLE __attribute__((weak))
 
 /* Such a function that only returns a value. */
-#define IT_GIVES(type, function, parameters, value)                                                                    \
+#define IT_RETURNS(type, function, parameters, value)                                                                  \
     IT_REPLACEABLE type function parameters                                                                            \
     {                                                                                                                  \
         return value;                                                                                                  \
@@ -78,10 +78,10 @@ int it_number(enum it_kind kind, const void *object);
 unsigned it_number_or_end(enum it_kind kind, const void *object);
 
 /* Makes an object's number free. */
-void it_forget(enum it_kind kind, const void *object);
+void it_free_number(enum it_kind kind, const void *object);
 
 /* Ends the guest as abort does, with a message on stderr. */
-void it_end_by(const char *message) __attribute__((noreturn));
+void it_abort_with(const char *message) __attribute__((noreturn));
 
 /* Calls the functions of pthread_cleanup_push that haven't been popped, the last one first. guest/build sets IT_CLEANUP
    if a program has such. */
@@ -89,7 +89,7 @@ void it_run_cleanups(void);
 
 /* What a new thread calls. It is on its creator's stack, and the new thread sees it as it was at the create.
    guest/build sets IT_SCHEDULED if a program reads a thread's policy. */
-struct it_beginning {
+struct it_start_args {
     void *(*function)(void *);
     void *argument;
 #ifdef IT_SCHEDULED
@@ -102,7 +102,7 @@ struct it_beginning {
 
 /* The policy and priority for a thread with the attributes, which may be null; and the call that stores them. */
 unsigned it_scheduling_for(const void *attributes);
-void it_keep_scheduling(unsigned thread, unsigned scheduling);
+void it_set_scheduling(unsigned thread, unsigned scheduling);
 
 /* Whether a thread is detached; only if guest/build sets IT_DETACHED. */
 int it_is_detached(unsigned thread);
@@ -124,16 +124,16 @@ void it_raise_abort(void);
 #ifdef IT_CANCEL
 int it_is_cancelled(void);
 void it_end_if_cancelled(void);
-void it_end_if_at_once(void);
-void it_tell_made(unsigned thread);
-void it_tell_end(void);
+void it_end_if_async_cancelled(void);
+void it_record_create(unsigned thread);
+void it_record_end(void);
 void it_wait_for_end(unsigned thread);
 #else
 static inline int it_is_cancelled(void) { return 0; }
 static inline void it_end_if_cancelled(void) { }
-static inline void it_end_if_at_once(void) { }
-static inline void it_tell_made(unsigned thread) { (void)thread; }
-static inline void it_tell_end(void) { }
+static inline void it_end_if_async_cancelled(void) { }
+static inline void it_record_create(unsigned thread) { (void)thread; }
+static inline void it_record_end(void) { }
 static inline void it_wait_for_end(unsigned thread) { (void)thread; }
 #endif
 
@@ -143,12 +143,12 @@ extern int it_exit_code;
 /* Ends the calling thread. */
 void it_end_thread(void *value) __attribute__((noreturn));
 
-/* Releases stdin, if the thread holds it. */
-void it_give_up_stdin(void);
+/* Unlocks stdin, if the thread holds it. */
+void it_unlock_stdin(void);
 
 /* A tenth. Without a multiplication it is an eighth of 1/2 + 1/4, times 1 + 1/16, and so on, which is slightly less
    than 8/10: so it is right or 1 too small, and the remainder shows which. */
-static inline unsigned it_tenth(unsigned number, unsigned *remainder)
+static inline unsigned it_div10(unsigned number, unsigned *remainder)
 {
 #ifdef __riscv_mul
     *remainder = number % 10;

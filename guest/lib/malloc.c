@@ -5,8 +5,8 @@
    page, and each thread has its pages at places of its own, whatever others take. A larger block, or one that must be
    aligned to more than 16 bytes, has pages of its own. The map of pages is changed under the library's mutex; no call
    is needed to take or free a block on a thread's own page. Blocks that a thread frees on other threads' pages are
-   collected, and handed over once there are enough, for any thread that needs such blocks. When a thread ends, its free
-   blocks are handed over too. */
+   collected, and moved to shared lists once there are enough, for any thread that needs such blocks. When a thread
+   ends, its free blocks are moved there too. */
 #include <errno.h>
 #include <malloc.h>
 #include <stdint.h>
@@ -15,16 +15,16 @@
 #include "library.h"
 
 enum {
-    MOST_PAGES = 1024,
-    STEP = 16,              /* blocks begin and end at multiples of it */
-    MOST_SMALL = 2032,      /* bytes of a block that shares its page */
+    MAX_PAGES = 1024,
+    ALIGNMENT = 16,          /* blocks begin and end at multiples of it */
+    MAX_SMALL = 2032,        /* bytes of a block that shares its page */
     SIZES = 15,
-    PAGES_AT_ONCE = 8,      /* that a thread takes for its small blocks */
-    HANDED_AT_ONCE = 8192,  /* bytes of blocks of one size that go from thread to thread */
-    BREATH = 16384,         /* blocks that are visited in one step */
-    COPIED_AT_ONCE = 65536  /* bytes that are copied or cleared in one step */
+    PAGES_PER_REFILL = 8,    /* pages that a thread takes at a time for small blocks */
+    TRANSFER_BYTES = 8192,   /* bytes of blocks of one size that are moved to or from the shared lists at a time */
+    BLOCKS_PER_STEP = 16384, /* blocks that are visited in one step */
+    BYTES_PER_STEP = 65536   /* bytes that are copied or cleared in one step */
 };
-static const unsigned short size_of[SIZES] = {
+static const unsigned short block_size[SIZES] = {
     16, 32, 48, 64, 96, 128, 192, 256, 384, 512, 672, 816, 1008, 1360, 2032
 };
 
@@ -32,9 +32,9 @@ static const unsigned short size_of[SIZES] = {
 struct block { struct block *next; };
 
 /* The start of a page of small blocks. */
-struct head {
-    unsigned short size, thread; /* which of size_of, and whose it is */
-    unsigned spare[3];           /* so that blocks begin at a multiple of STEP */
+struct page_header {
+    unsigned short size, thread; /* index in block_size, and the thread that owns the page */
+    unsigned padding[3];         /* so that blocks begin at a multiple of ALIGNMENT */
 };
 
 /* The data of a thread, on a page of its own. */
@@ -46,13 +46,13 @@ static struct IT_PAGE_ALIGNED arena {
     char *pages, *pages_end;         /* pages that have no size yet */
 } arenas[IT_THREADS];
 
-/* Data under the library's mutex: the state of each page of the heap, and handed-over blocks. Only a program that
+/* Data under the library's mutex: the state of each page of the heap, and the shared lists. Only a program that
    allocates memory has this section, so that the linker's script knows whether to make a heap. */
 enum { CLEAN, USED_BEFORE, FIRST_OF_SMALL, MORE_OF_LARGE, FIRST_OF_LARGE /* and above: plus further pages */ };
 static __attribute__((section(".bss.it_takes_memory"))) struct IT_PAGE_ALIGNED common {
-    unsigned short page[MOST_PAGES];
+    unsigned short page[MAX_PAGES];
     struct block *free[SIZES];
-    unsigned short count[MOST_PAGES]; /* for give_pages_back */
+    unsigned short count[MAX_PAGES]; /* for release_pages */
 } common;
 
 extern char it_heap[], it_heap_end[];
@@ -71,22 +71,22 @@ static unsigned page_of(const void *block)
 
 /* Where a thread looks first: main's at the start; others in the second half, at places in the order of their number's
    bits reversed, so that the first few are far apart. */
-static unsigned preferred(unsigned thread)
+static unsigned preferred_page(unsigned thread)
 {
-    unsigned pages = heap_pages(), place = 0, bits = thread - 1;
+    unsigned pages = heap_pages(), slot = 0, bits = thread - 1;
     if (thread == 0)
         return 0;
     for (unsigned bit = 16; bit; bit >>= 1, bits >>= 1)
-        place += bits & 1 ? bit : 0;
-    return pages / 2 + pages / (2 * IT_THREADS) * place;
+        slot += bits & 1 ? bit : 0;
+    return pages / 2 + pages / (2 * IT_THREADS) * slot;
 }
 
-/* The number of free pages from `from` on, at most `most`; *dirty is nonzero if one of them was used before. */
-static unsigned free_run(unsigned from, unsigned most, int *dirty)
+/* The number of free pages from `from` on, at most `max`; *dirty is nonzero if one of them was used before. */
+static unsigned free_run(unsigned from, unsigned max, int *dirty)
 {
     unsigned count = 0;
     *dirty = 0;
-    while (count < most && common.page[from + count] <= USED_BEFORE)
+    while (count < max && common.page[from + count] <= USED_BEFORE)
         *dirty |= common.page[from + count++];
     return count;
 }
@@ -95,87 +95,87 @@ static unsigned free_run(unsigned from, unsigned most, int *dirty)
    memory. Returns -1 if there are none. */
 static int search(unsigned from, unsigned to, unsigned count, unsigned align, int *dirty)
 {
-    unsigned base = (unsigned)it_heap / IT_PAGE, at = ((base + from + align - 1) & ~(align - 1)) - base;
-    while (at < to && at + count <= heap_pages()) {
-        unsigned run = free_run(at, count, dirty);
+    unsigned base = (unsigned)it_heap / IT_PAGE, page = ((base + from + align - 1) & ~(align - 1)) - base;
+    while (page < to && page + count <= heap_pages()) {
+        unsigned run = free_run(page, count, dirty);
         if (run == count)
-            return (int)at;
-        at = ((base + at + run + align) & ~(align - 1)) - base;
+            return (int)page;
+        page = ((base + page + run + align) & ~(align - 1)) - base;
     }
     return -1;
 }
 
-static void mark_large(unsigned at, unsigned count)
+static void mark_large(unsigned page, unsigned count)
 {
-    common.page[at] = (unsigned short)(FIRST_OF_LARGE + count - 1);
+    common.page[page] = (unsigned short)(FIRST_OF_LARGE + count - 1);
     for (unsigned k = 1; k < count; k++)
-        common.page[at + k] = MORE_OF_LARGE;
+        common.page[page + k] = MORE_OF_LARGE;
 }
 
-static void mark_free(unsigned at, unsigned count)
+static void mark_free(unsigned page, unsigned count)
 {
     for (unsigned k = 0; k < count; k++)
-        common.page[at + k] = USED_BEFORE;
+        common.page[page + k] = USED_BEFORE;
 }
 
 static int find_pages(unsigned count, unsigned align, int *dirty)
 {
-    unsigned from = preferred(it_self.number);
-    int at = search(from, heap_pages(), count, align, dirty);
-    return at < 0 ? search(0, from, count, align, dirty) : at;
+    unsigned from = preferred_page(it_self.number);
+    int page = search(from, heap_pages(), count, align, dirty);
+    return page < 0 ? search(0, from, count, align, dirty) : page;
 }
 
 /* ------------------------------------------------------------------------------------------ when all is in use ---- */
 
 /* The number of blocks on a full page of a size. */
-static unsigned blocks_of(unsigned size)
+static unsigned blocks_per_page(unsigned size)
 {
     unsigned count = 0;
-    for (unsigned bytes = sizeof(struct head) + size_of[size]; bytes <= IT_PAGE; bytes += size_of[size])
+    for (unsigned bytes = sizeof(struct page_header) + block_size[size]; bytes <= IT_PAGE; bytes += block_size[size])
         count++;
     return count;
 }
 
-/* A list may have so many blocks that one step may not visit them all: so a call ends the step after each BREATH
-   blocks. */
-static void breathe(unsigned done)
+/* A list may have so many blocks that one step may not visit them all: so a call ends the step after each
+   BLOCKS_PER_STEP blocks. */
+static void end_long_step(unsigned done)
 {
-    if (done % BREATH == 0)
+    if (done % BLOCKS_PER_STEP == 0)
         it_call(IT_CALL_YIELD, 0, 0);
 }
 
 /* Counts the free blocks of each page. A page with blocks that were never allocated counts too few. */
 static void count_free(const struct block *block)
 {
-    for (unsigned done = 1; block; block = block->next, breathe(done++))
+    for (unsigned done = 1; block; block = block->next, end_long_step(done++))
         common.count[page_of(block)]++;
 }
 
 /* Removes the blocks of wholly free pages from a list. */
-static void drop_whole(struct block **list, unsigned whole)
+static void remove_free_pages(struct block **list, unsigned per_page)
 {
-    for (unsigned done = 1; *list; breathe(done++))
-        if (common.count[page_of(*list)] == whole)
+    for (unsigned done = 1; *list; end_long_step(done++))
+        if (common.count[page_of(*list)] == per_page)
             *list = (*list)->next;
         else
             list = &(*list)->next;
 }
 
 /* Frees the pages whose blocks are all free, as far as the caller knows. Under the library's mutex. */
-static void give_pages_back(struct arena *arena)
+static void release_pages(struct arena *arena)
 {
     mark_free(page_of(arena->pages), (unsigned)(arena->pages_end - arena->pages) / IT_PAGE);
     arena->pages = arena->pages_end;
     memset(common.count, 0, sizeof common.count);
     for (unsigned size = 0; size < SIZES; size++) {
         struct block **lists[] = { &arena->free[size], &arena->collected[size], &common.free[size] };
-        unsigned whole = blocks_of(size);
+        unsigned per_page = blocks_per_page(size);
         for (unsigned k = 0; k < 3; k++)
             count_free(*lists[k]);
         for (unsigned k = 0; k < 3; k++)
-            drop_whole(lists[k], whole);
+            remove_free_pages(lists[k], per_page);
         for (unsigned page = 0; page < heap_pages(); page++) {
-            if (common.count[page] == whole)
+            if (common.count[page] == per_page)
                 common.page[page] = USED_BEFORE;
             common.count[page] = 0;
         }
@@ -193,20 +193,20 @@ static struct arena *own_arena(void)
 static void splice(struct block **to, struct block **from)
 {
     struct block **end = from;
-    for (unsigned done = 1; *end; breathe(done++))
+    for (unsigned done = 1; *end; end_long_step(done++))
         end = &(*end)->next;
     *end = *to;
     *to = *from;
     *from = NULL;
 }
 
-/* At a thread's end: hands over all its free blocks. */
-static void leave_heap(void)
+/* At a thread's end: moves all its free blocks to the shared lists. */
+static void release_heap(void)
 {
     struct arena *arena = own_arena();
     it_lock_library();
     for (unsigned size = 0; size < SIZES; size++) {
-        for (; arena->next[size] != arena->end[size]; arena->next[size] += size_of[size]) {
+        for (; arena->next[size] != arena->end[size]; arena->next[size] += block_size[size]) {
             struct block *block = (struct block *)arena->next[size];
             block->next = arena->free[size];
             arena->free[size] = block;
@@ -219,91 +219,91 @@ static void leave_heap(void)
 }
 
 /* Takes pages for small blocks; fewer if there aren't as many in a row. Returns 0 if there are none. */
-static int take_pages(struct arena *arena)
+static int alloc_pages(struct arena *arena)
 {
-    int dirty, at = -1;
-    unsigned count = PAGES_AT_ONCE;
-    while (at < 0 && count) {
-        at = find_pages(count, 1, &dirty);
-        if (at < 0)
+    int dirty, page = -1;
+    unsigned count = PAGES_PER_REFILL;
+    while (page < 0 && count) {
+        page = find_pages(count, 1, &dirty);
+        if (page < 0)
             count >>= 1;
     }
-    if (at < 0)
+    if (page < 0)
         return 0;
     for (unsigned k = 0; k < count; k++)
-        common.page[at + (int)k] = FIRST_OF_SMALL;
-    arena->pages = it_heap + (unsigned)at * IT_PAGE;
+        common.page[page + (int)k] = FIRST_OF_SMALL;
+    arena->pages = it_heap + (unsigned)page * IT_PAGE;
     arena->pages_end = arena->pages + count * IT_PAGE;
-    it_self.leave_heap = leave_heap;
+    it_self.release_heap = release_heap;
     return 1;
 }
 
-/* Takes some handed-over blocks of a size. */
-static void take_handed(struct arena *arena, unsigned size)
+/* Takes some blocks of a size from the shared list. */
+static void take_shared(struct arena *arena, unsigned size)
 {
     struct block **end = &common.free[size];
-    for (unsigned bytes = 0; *end && bytes < HANDED_AT_ONCE; bytes += size_of[size])
+    for (unsigned bytes = 0; *end && bytes < TRANSFER_BYTES; bytes += block_size[size])
         end = &(*end)->next;
     arena->free[size] = common.free[size];
     common.free[size] = *end;
     *end = NULL;
     if (arena->free[size])
-        it_self.leave_heap = leave_heap;
+        it_self.release_heap = release_heap;
 }
 
-/* Takes handed-over blocks of a size, or pages. Returns 0 if there are none. */
-static int get_more(struct arena *arena, unsigned size)
+/* Takes shared blocks of a size, or pages. Returns 0 if there are none. */
+static int refill(struct arena *arena, unsigned size)
 {
     it_lock_library();
-    take_handed(arena, size);
-    int some = arena->free[size] || take_pages(arena);
-    if (!some) {
-        give_pages_back(arena);
-        some = take_pages(arena);
+    take_shared(arena, size);
+    int found = arena->free[size] || alloc_pages(arena);
+    if (!found) {
+        release_pages(arena);
+        found = alloc_pages(arena);
     }
     it_unlock_library();
-    return some;
+    return found;
 }
 
 /* Makes the next page one of blocks of a size. */
-static void begin_page(struct arena *arena, unsigned size)
+static void start_page(struct arena *arena, unsigned size)
 {
-    struct head *head = (struct head *)arena->pages;
-    head->size = (unsigned short)size;
-    head->thread = (unsigned short)it_self.number;
-    arena->next[size] = (char *)(head + 1);
+    struct page_header *header = (struct page_header *)arena->pages;
+    header->size = (unsigned short)size;
+    header->thread = (unsigned short)it_self.number;
+    arena->next[size] = (char *)(header + 1);
     arena->end[size] = arena->next[size];
-    for (char *end = arena->end[size]; end + size_of[size] <= arena->pages + IT_PAGE; end += size_of[size])
-        arena->end[size] = end + size_of[size];
+    for (char *end = arena->end[size]; end + block_size[size] <= arena->pages + IT_PAGE; end += block_size[size])
+        arena->end[size] = end + block_size[size];
     arena->pages += IT_PAGE;
 }
 
-static unsigned size_for(size_t bytes)
+static unsigned size_class(size_t bytes)
 {
     unsigned size = 0;
-    while (size_of[size] < bytes)
+    while (block_size[size] < bytes)
         size++;
     return size;
 }
 
-static void *take_small(size_t bytes)
+static void *alloc_small(size_t bytes)
 {
     struct arena *arena = own_arena();
-    unsigned size = size_for(bytes);
+    unsigned size = size_class(bytes);
     if (!arena->free[size] && arena->next[size] == arena->end[size]) {
-        if (arena->pages == arena->pages_end && !get_more(arena, size)) {
+        if (arena->pages == arena->pages_end && !refill(arena, size)) {
             errno = ENOMEM;
             return NULL;
         }
         if (!arena->free[size])
-            begin_page(arena, size);
+            start_page(arena, size);
     }
     struct block *block = arena->free[size];
     if (block) {
         arena->free[size] = block->next;
     } else {
         block = (struct block *)arena->next[size];
-        arena->next[size] += size_of[size];
+        arena->next[size] += block_size[size];
     }
     return block;
 }
@@ -313,9 +313,9 @@ static void collect(struct arena *arena, struct block *block, unsigned size)
 {
     block->next = arena->collected[size];
     arena->collected[size] = block;
-    it_self.leave_heap = leave_heap;
-    arena->collected_bytes[size] += size_of[size];
-    if (arena->collected_bytes[size] < HANDED_AT_ONCE)
+    it_self.release_heap = release_heap;
+    arena->collected_bytes[size] += block_size[size];
+    if (arena->collected_bytes[size] < TRANSFER_BYTES)
         return;
     arena->collected_bytes[size] = 0;
     it_lock_library();
@@ -323,46 +323,46 @@ static void collect(struct arena *arena, struct block *block, unsigned size)
     it_unlock_library();
 }
 
-static const struct head *head_of(const void *block)
+static const struct page_header *header_of(const void *block)
 {
-    return (const struct head *)((unsigned)block & ~(IT_PAGE - 1u));
+    return (const struct page_header *)((unsigned)block & ~(IT_PAGE - 1u));
 }
 
 static void free_small(struct block *block)
 {
     struct arena *arena = own_arena();
-    const struct head *head = head_of(block);
-    if (head->thread != it_self.number) {
-        collect(arena, block, head->size);
+    const struct page_header *header = header_of(block);
+    if (header->thread != it_self.number) {
+        collect(arena, block, header->size);
         return;
     }
-    block->next = arena->free[head->size];
-    arena->free[head->size] = block;
+    block->next = arena->free[header->size];
+    arena->free[header->size] = block;
 }
 
 /* ---------------------------------------------------------------------------------------------- large blocks ---- */
 
-static void *take_large(size_t bytes, size_t align, int *dirty)
+static void *alloc_large(size_t bytes, size_t align, int *dirty)
 {
     unsigned count = (unsigned)((bytes + IT_PAGE - 1) / IT_PAGE);
     unsigned pages = align <= IT_PAGE ? 1 : (unsigned)(align / IT_PAGE);
-    int at = -1;
-    if (bytes <= MOST_PAGES * IT_PAGE) {
+    int page = -1;
+    if (bytes <= MAX_PAGES * IT_PAGE) {
         it_lock_library();
-        at = find_pages(count, pages, dirty);
-        if (at < 0) {
-            give_pages_back(own_arena());
-            at = find_pages(count, pages, dirty);
+        page = find_pages(count, pages, dirty);
+        if (page < 0) {
+            release_pages(own_arena());
+            page = find_pages(count, pages, dirty);
         }
-        if (at >= 0)
-            mark_large((unsigned)at, count);
+        if (page >= 0)
+            mark_large((unsigned)page, count);
         it_unlock_library();
     }
-    if (at < 0) {
+    if (page < 0) {
         errno = ENOMEM;
         return NULL;
     }
-    return it_heap + (unsigned)at * IT_PAGE;
+    return it_heap + (unsigned)page * IT_PAGE;
 }
 
 /* The number of pages of a large block. */
@@ -386,30 +386,30 @@ static void free_large(void *block)
 /* Resizes a large block in place. Returns 0 if that isn't possible. */
 static int resize_large(void *block, size_t bytes)
 {
-    unsigned at = page_of(block), old = pages_of(block), count = (unsigned)((bytes + IT_PAGE - 1) / IT_PAGE);
+    unsigned page = page_of(block), old = pages_of(block), count = (unsigned)((bytes + IT_PAGE - 1) / IT_PAGE);
     int dirty, done = 1;
     if (count == old)
         return 1;
     it_lock_library();
     if (count < old)
-        mark_free(at + count, old - count);
+        mark_free(page + count, old - count);
     else
-        done = at + count <= heap_pages() && free_run(at + old, count - old, &dirty) == count - old;
+        done = page + count <= heap_pages() && free_run(page + old, count - old, &dirty) == count - old;
     if (done)
-        mark_large(at, count);
+        mark_large(page, count);
     it_unlock_library();
     return done;
 }
 
 /* ---------------------------------------------------------------------------------------------- the calls ---- */
 
-static size_t part_of(size_t left)
+static size_t chunk_size(size_t remaining)
 {
-    return left < COPIED_AT_ONCE ? left : COPIED_AT_ONCE;
+    return remaining < BYTES_PER_STEP ? remaining : BYTES_PER_STEP;
 }
 
 /* Ends the step after each part of a block that is copied or cleared, except the first. */
-static void breathe_after(size_t done)
+static void end_step_after(size_t done)
 {
     if (done)
         it_call(IT_CALL_YIELD, 0, 0);
@@ -418,7 +418,7 @@ static void breathe_after(size_t done)
 void *malloc(size_t bytes)
 {
     int dirty;
-    return bytes <= MOST_SMALL ? take_small(bytes) : take_large(bytes, 1, &dirty);
+    return bytes <= MAX_SMALL ? alloc_small(bytes) : alloc_large(bytes, 1, &dirty);
 }
 
 void free(void *block)
@@ -434,16 +434,16 @@ void free(void *block)
 /* Pages that were never used are zero. */
 void *calloc(size_t count, size_t bytes)
 {
-    size_t all;
+    size_t total;
     int dirty = 1;
-    if (__builtin_mul_overflow(count, bytes, &all)) {
+    if (__builtin_mul_overflow(count, bytes, &total)) {
         errno = ENOMEM;
         return NULL;
     }
-    void *block = all <= MOST_SMALL ? take_small(all) : take_large(all, 1, &dirty);
-    for (size_t done = 0; block && dirty && done < all; done += COPIED_AT_ONCE) {
-        memset((char *)block + done, 0, part_of(all - done));
-        breathe_after(done);
+    void *block = total <= MAX_SMALL ? alloc_small(total) : alloc_large(total, 1, &dirty);
+    for (size_t done = 0; block && dirty && done < total; done += BYTES_PER_STEP) {
+        memset((char *)block + done, 0, chunk_size(total - done));
+        end_step_after(done);
     }
     return block;
 }
@@ -457,45 +457,45 @@ void *realloc(void *block, size_t bytes)
         free(block);
         return NULL;
     }
-    size_t old = is_large(block) ? pages_of(block) * IT_PAGE : size_of[head_of(block)->size];
-    if (is_large(block) ? bytes > MOST_SMALL && bytes <= MOST_PAGES * IT_PAGE && resize_large(block, bytes)
+    size_t old = is_large(block) ? pages_of(block) * IT_PAGE : block_size[header_of(block)->size];
+    if (is_large(block) ? bytes > MAX_SMALL && bytes <= MAX_PAGES * IT_PAGE && resize_large(block, bytes)
                         : bytes <= old && bytes > old / 2)
         return block;
-    void *moved = malloc(bytes);
-    if (!moved)
+    void *copy = malloc(bytes);
+    if (!copy)
         return NULL;
-    size_t all = old < bytes ? old : bytes;
-    for (size_t done = 0; done < all; done += COPIED_AT_ONCE) {
-        memcpy((char *)moved + done, (char *)block + done, part_of(all - done));
-        breathe_after(done);
+    size_t total = old < bytes ? old : bytes;
+    for (size_t done = 0; done < total; done += BYTES_PER_STEP) {
+        memcpy((char *)copy + done, (char *)block + done, chunk_size(total - done));
+        end_step_after(done);
     }
     free(block);
-    return moved;
+    return copy;
 }
 
-static int take_aligned(void **block, size_t align, size_t bytes)
+static int alloc_aligned(void **block, size_t align, size_t bytes)
 {
-    int dirty, before = errno;
+    int dirty, saved_errno = errno;
     if (align < sizeof(void *) || (align & (align - 1)))
         return EINVAL;
-    int small = align <= STEP && bytes <= MOST_SMALL;
-    void *made = small ? take_small(bytes) : take_large(bytes ? bytes : 1, align, &dirty);
-    errno = before;
-    if (!made)
+    int small = align <= ALIGNMENT && bytes <= MAX_SMALL;
+    void *allocated = small ? alloc_small(bytes) : alloc_large(bytes ? bytes : 1, align, &dirty);
+    errno = saved_errno;
+    if (!allocated)
         return ENOMEM;
-    *block = made;
+    *block = allocated;
     return 0;
 }
 
 IT_REPLACEABLE int posix_memalign(void **block, size_t align, size_t bytes)
 {
-    return take_aligned(block, align, bytes);
+    return alloc_aligned(block, align, bytes);
 }
 
 void *aligned_alloc(size_t align, size_t bytes)
 {
     void *block;
-    int error = take_aligned(&block, align < sizeof(void *) ? sizeof(void *) : align, bytes);
+    int error = alloc_aligned(&block, align < sizeof(void *) ? sizeof(void *) : align, bytes);
     if (error == 0)
         return block;
     errno = error;
@@ -511,7 +511,7 @@ IT_REPLACEABLE void *memalign(size_t align, size_t bytes)
 
 IT_REPLACEABLE size_t malloc_usable_size(void *block)
 {
-    return !block ? 0 : is_large(block) ? pages_of(block) * IT_PAGE : size_of[head_of(block)->size];
+    return !block ? 0 : is_large(block) ? pages_of(block) * IT_PAGE : block_size[header_of(block)->size];
 }
 
 IT_REPLACEABLE void cfree(void *block)

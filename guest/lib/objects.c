@@ -14,17 +14,17 @@ static struct table tables[4];
 int it_number(enum it_kind kind, const void *object)
 {
     struct table *table = &tables[kind];
-    unsigned place;
-    int number = find(table, (unsigned)object, &place);
+    unsigned slot;
+    int number = find_object(table, (unsigned)object, &slot);
     if (number >= 0)
         return number;
     it_lock_library();
-    number = find(table, (unsigned)object, &place);
-    if (number < 0 && place < IT_FOR_PROGRAMS) {
-        number = (int)place;
-        table->object[place] = (unsigned)object;
+    number = find_object(table, (unsigned)object, &slot);
+    if (number < 0 && slot < IT_PROGRAM_OBJECTS) {
+        number = (int)slot;
+        table->object[slot] = (unsigned)object;
         if (kind == IT_SEMAPHORE) /* an earlier semaphore with this number may have had a value */
-            it_call(IT_CALL_SEM_INIT, place, 0);
+            it_call(IT_CALL_SEM_INIT, slot, 0);
     }
     it_unlock_library();
     return number;
@@ -38,17 +38,17 @@ unsigned it_number_or_end(enum it_kind kind, const void *object)
     };
     int number = it_number(kind, object);
     if (number < 0)
-        it_end_by(messages[kind]);
+        it_abort_with(messages[kind]);
     return (unsigned)number;
 }
 
-void it_forget(enum it_kind kind, const void *object)
+void it_free_number(enum it_kind kind, const void *object)
 {
     struct table *table = &tables[kind];
-    unsigned place;
+    unsigned slot;
     it_lock_library();
-    int number = find(table, (unsigned)object, &place);
+    int number = find_object(table, (unsigned)object, &slot);
     if (number >= 0)
-        table->object[number] = GONE;
+        table->object[number] = DELETED;
     it_unlock_library();
 }

@@ -40,7 +40,7 @@ int pthread_once(pthread_once_t *once, void (*function)(void))
 /* The keys that were created, on a page of their own. A deleted key's number isn't used again, so that no thread has an
    old value for a new key. */
 static struct IT_PAGE_ALIGNED {
-    unsigned made;
+    unsigned count;
     char deleted[PTHREAD_KEYS_MAX];
     void (*destructor[PTHREAD_KEYS_MAX])(void *);
 } keys;
@@ -49,45 +49,45 @@ static _Thread_local void *values[PTHREAD_KEYS_MAX];
 
 static int exists(pthread_key_t key)
 {
-    return key < keys.made && !keys.deleted[key];
+    return key < keys.count && !keys.deleted[key];
 }
 
 int pthread_key_create(pthread_key_t *key, void (*destructor)(void *))
 {
-    int answer = EAGAIN;
+    int result = EAGAIN;
     it_lock_library();
-    if (keys.made < PTHREAD_KEYS_MAX) {
-        keys.destructor[keys.made] = destructor;
-        *key = keys.made++;
-        answer = 0;
+    if (keys.count < PTHREAD_KEYS_MAX) {
+        keys.destructor[keys.count] = destructor;
+        *key = keys.count++;
+        result = 0;
     }
     it_unlock_library();
-    return answer;
+    return result;
 }
 
 int pthread_key_delete(pthread_key_t key)
 {
-    int answer = EINVAL;
+    int result = EINVAL;
     it_lock_library();
     if (exists(key)) {
         keys.deleted[key] = 1;
-        answer = 0;
+        result = 0;
     }
     it_unlock_library();
-    return answer;
+    return result;
 }
 
 /* A destructor may set values again, so this makes as many passes as POSIX requires at least. */
-static void leave_keys(void)
+static void run_key_destructors(void)
 {
-    int some = 1;
-    for (unsigned turn = 0; some && turn < PTHREAD_DESTRUCTOR_ITERATIONS; turn++) {
-        some = 0;
-        for (pthread_key_t key = 0; key < keys.made; key++) {
+    int called = 1;
+    for (unsigned pass = 0; called && pass < PTHREAD_DESTRUCTOR_ITERATIONS; pass++) {
+        called = 0;
+        for (pthread_key_t key = 0; key < keys.count; key++) {
             void *value = values[key];
             if (!value || !exists(key) || !keys.destructor[key])
                 continue;
-            some = 1;
+            called = 1;
             values[key] = 0;
             keys.destructor[key](value);
         }
@@ -99,7 +99,7 @@ int pthread_setspecific(pthread_key_t key, const void *value)
     if (!exists(key))
         return EINVAL;
     values[key] = (void *)value;
-    it_self.leave_keys = leave_keys;
+    it_self.run_key_destructors = run_key_destructors;
     return 0;
 }
 

@@ -21,9 +21,9 @@ static struct IT_PAGE_ALIGNED { unsigned char bytes[2][IT_PAGE]; } pages[IT_THRE
 
 /* guest/build --unbuffered: after a call of stdio the page is output if there is a newline in it. */
 #ifdef IT_UNBUFFERED
-enum { AT_NEWLINES = 1 };
+enum { FLUSH_AT_NEWLINE = 1 };
 #else
-enum { AT_NEWLINES = 0 };
+enum { FLUSH_AT_NEWLINE = 0 };
 #endif
 
 /* Clears the first bytes of a page, and at most 31 more. */
@@ -33,67 +33,67 @@ static void clear(unsigned char *page, unsigned count)
         word[0] = word[1] = word[2] = word[3] = word[4] = word[5] = word[6] = word[7] = 0;
 }
 
-static void begin_page(unsigned char *page)
+static void start_page(unsigned char *page)
 {
-    it_self.page = it_self.at = page;
+    it_self.page = it_self.next = page;
 }
 
 /* Outputs the first bytes of the page, and continues on the other page, to which it moves the rest. */
-static void put_out(unsigned count)
+static void output_page(unsigned count)
 {
     unsigned char *page = it_self.page, *other = pages[it_self.number].bytes[page == pages[it_self.number].bytes[0]];
-    unsigned rest = (unsigned)(it_self.at - page) - count;
+    unsigned rest = (unsigned)(it_self.next - page) - count;
     it_call(IT_CALL_PUT, (unsigned)page, count);
-    begin_page(other);
+    start_page(other);
     if (rest) {
         memcpy(other, page + count, rest);
-        it_self.at += rest;
+        it_self.next += rest;
     }
     clear(page, count + rest);
 }
 
-static void full(void)
+static void output_full_page(void)
 {
-    unsigned before = it_self.call ? (unsigned)(it_self.call - it_self.page) : 0;
-    put_out(it_shared.threads_made && before ? before : IT_PAGE);
-    it_self.call = it_self.call ? it_self.page : NULL;
+    unsigned before = it_self.call_start ? (unsigned)(it_self.call_start - it_self.page) : 0;
+    output_page(it_shared.threads_created && before ? before : IT_PAGE);
+    it_self.call_start = it_self.call_start ? it_self.page : NULL;
 }
 
-static void begin(void)
+static void begin_output(void)
 {
     if (!it_self.page)
-        begin_page(pages[it_self.number].bytes[0]);
-    it_self.settle = 1;
+        start_page(pages[it_self.number].bytes[0]);
+    it_self.io_pending = 1;
 }
 
 static void flush(void)
 {
-    if (it_self.at != it_self.page)
-        put_out((unsigned)(it_self.at - it_self.page));
+    if (it_self.next != it_self.page)
+        output_page((unsigned)(it_self.next - it_self.page));
 }
 
-void it_settle(void)
+void it_finish_io(void)
 {
     flush();
-    it_give_up_stdin();
-    it_self.settle = it_self.doubles = 0;
+    it_unlock_stdin();
+    it_self.io_pending = it_self.conversion_cost = 0;
 }
 
 /* Outputs whole pages directly from where they are, if nothing is buffered. Bytes that can't be read trap when they are
    copied. */
-static void add(const unsigned char *bytes, size_t count)
+static void append(const unsigned char *bytes, size_t count)
 {
-    for (; count >= IT_PAGE && it_self.at == it_self.page; bytes += IT_PAGE, count -= IT_PAGE)
+    for (; count >= IT_PAGE && it_self.next == it_self.page; bytes += IT_PAGE, count -= IT_PAGE)
         if (it_call(IT_CALL_PUT, (unsigned)bytes, IT_PAGE) < 0)
             break;
     while (count) {
-        size_t room = IT_PAGE - (size_t)(it_self.at - it_self.page), part = count < room ? count : room;
-        memcpy(it_self.at, bytes, part);
-        it_self.at += part;
+        size_t space = IT_PAGE - (size_t)(it_self.next - it_self.page), part = count < space ? count : space;
+        memcpy(it_self.next, bytes, part);
+        it_self.next += part;
         bytes += part;
         count -= part;
-        if (part == room)
-            full();
+        if (part == space)
+            output_full_page();
     }
 }
 
@@ -102,22 +102,22 @@ static void add(const unsigned char *bytes, size_t count)
 static int put_byte(char byte, FILE *stream)
 {
     (void)stream;
-    begin();
-    *it_self.at++ = (unsigned char)byte;
-    if (it_self.at == it_self.page + IT_PAGE)
-        full();
-    if (AT_NEWLINES && byte == '\n' && !it_self.call)
+    begin_output();
+    *it_self.next++ = (unsigned char)byte;
+    if (it_self.next == it_self.page + IT_PAGE)
+        output_full_page();
+    if (FLUSH_AT_NEWLINE && byte == '\n' && !it_self.call_start)
         flush();
     return (unsigned char)byte;
 }
 
 /* Outside of a longer call, a byte for stderr is output at once. */
-static int put_error(char byte, FILE *stream)
+static int put_stderr_byte(char byte, FILE *stream)
 {
-    int answer = put_byte(byte, stream);
-    if (!it_self.call)
+    int result = put_byte(byte, stream);
+    if (!it_self.call_start)
         flush();
-    return answer;
+    return result;
 }
 
 static int flush_stream(FILE *stream)
@@ -133,7 +133,7 @@ static int no_buffer(FILE *stream, char *buffer, int mode, size_t size)
     return 0;
 }
 
-static int stay_open(FILE *stream)
+static int keep_open(FILE *stream)
 {
     return flush_stream(stream);
 }
@@ -146,12 +146,13 @@ static __off_t no_seek(FILE *stream, __off_t offset, int whence)
 }
 
 /* Only the error flag in them changes, so they need no pages of their own. */
-static struct __file_ext output = FDEV_SETUP_EXT(put_byte, NULL, flush_stream, stay_open, no_seek, no_buffer, __SWR);
-static struct __file_ext errors = FDEV_SETUP_EXT(put_error, NULL, flush_stream, stay_open, no_seek, no_buffer, __SWR);
+static struct __file_ext output = FDEV_SETUP_EXT(put_byte, NULL, flush_stream, keep_open, no_seek, no_buffer, __SWR);
+static struct __file_ext errors = FDEV_SETUP_EXT(put_stderr_byte, NULL, flush_stream, keep_open, no_seek, no_buffer,
+                                                 __SWR);
 FILE *const stdout = &output.cfile.file;
 FILE *const stderr = &errors.cfile.file;
 
-static int is_ours(const FILE *stream)
+static int is_output(const FILE *stream)
 {
     return stream == stdout || stream == stderr;
 }
@@ -159,10 +160,10 @@ static int is_ours(const FILE *stream)
 /* The begin and end of a call of stdio. Calls may be nested, as when a printf calls a print. */
 static unsigned char *begin_call(void)
 {
-    unsigned char *outer = it_self.call;
-    begin();
+    unsigned char *outer = it_self.call_start;
+    begin_output();
     if (!outer)
-        it_self.call = it_self.at;
+        it_self.call_start = it_self.next;
     return outer;
 }
 
@@ -170,8 +171,8 @@ static void end_call(const FILE *stream, const unsigned char *outer)
 {
     if (outer)
         return;
-    it_self.call = NULL;
-    if (stream == stderr || (AT_NEWLINES && memchr(it_self.page, '\n', (size_t)(it_self.at - it_self.page))))
+    it_self.call_start = NULL;
+    if (stream == stderr || (FLUSH_AT_NEWLINE && memchr(it_self.page, '\n', (size_t)(it_self.next - it_self.page))))
         flush();
 }
 
@@ -183,19 +184,19 @@ static void end_call(const FILE *stream, const unsigned char *outer)
 int __real_vfprintf(FILE *stream, const char *format, va_list arguments);
 int __wrap_vfprintf(FILE *stream, const char *format, va_list arguments)
 {
-    if (!is_ours(stream))
+    if (!is_output(stream))
         return __real_vfprintf(stream, format, arguments);
     const unsigned char *outer = begin_call();
-    int answer = __real_vfprintf(stream, format, arguments);
+    int result = __real_vfprintf(stream, format, arguments);
     end_call(stream, outer);
-    return answer;
+    return result;
 }
 
 static size_t write_all(FILE *stream, const void *bytes, size_t count)
 {
-    if (is_ours(stream)) {
+    if (is_output(stream)) {
         const unsigned char *outer = begin_call();
-        add(bytes, count);
+        append(bytes, count);
         end_call(stream, outer);
         return count;
     }
@@ -211,8 +212,8 @@ size_t fwrite(const void *restrict bytes, size_t size, size_t count, FILE *restr
 {
     if (size == 0 || count == 0)
         return 0;
-    size_t all = size * count, written = write_all(stream, bytes, all);
-    return written == all ? count : written / size;
+    size_t total = size * count, written = write_all(stream, bytes, total);
+    return written == total ? count : written / size;
 }
 
 int fputs(const char *restrict text, FILE *restrict stream)
@@ -224,15 +225,15 @@ int fputs(const char *restrict text, FILE *restrict stream)
 int puts(const char *text)
 {
     const unsigned char *outer = begin_call();
-    add((const unsigned char *)text, strlen(text));
-    add((const unsigned char *)"\n", 1);
+    append((const unsigned char *)text, strlen(text));
+    append((const unsigned char *)"\n", 1);
     end_call(stdout, outer);
     return 0;
 }
 
 int fflush(FILE *stream)
 {
-    if (!stream || is_ours(stream))
+    if (!stream || is_output(stream))
         flush();
     else if (stream->flush)
         return stream->flush(stream);

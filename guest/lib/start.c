@@ -55,21 +55,21 @@ static __attribute__((noreturn)) void start_main(void)
 
 /* The first step of a thread ends here, with a call: so the step that does the work doesn't read the page of the
    creator's stack that has the beginning. */
-static __attribute__((noreturn)) void start_thread(const struct it_beginning *beginning)
+static __attribute__((noreturn)) void start_thread(const struct it_start_args *start_args)
 {
-    void *(*function)(void *) = beginning->function;
-    void *argument = beginning->argument;
+    void *(*function)(void *) = start_args->function;
+    void *argument = start_args->argument;
 #ifdef IT_SCHEDULED
-    it_keep_scheduling(it_self.number, beginning->scheduling);
+    it_set_scheduling(it_self.number, start_args->scheduling);
 #endif
 #ifdef IT_SIGNALS
-    it_block_signals(beginning->blocked);
+    it_block_signals(start_args->blocked);
 #endif
     it_call(IT_CALL_YIELD, 0, 0);
     it_end_thread(function(argument));
 }
 
-__attribute__((noreturn, used)) void it_start(const struct it_beginning *beginning, unsigned number)
+__attribute__((noreturn, used)) void it_start(const struct it_start_args *start_args, unsigned number)
 {
     char *block;
     __asm__("mv %0, tp" : "=r"(block));
@@ -77,5 +77,5 @@ __attribute__((noreturn, used)) void it_start(const struct it_beginning *beginni
     it_self.number = number;
     if (number == 0)
         start_main();
-    start_thread(beginning);
+    start_thread(start_args);
 }

@@ -4,30 +4,30 @@
 
 #include "library.h"
 
-enum { NEVER_USED = 0, GONE = 1 };
+enum { EMPTY = 0, DELETED = 1 };
 
-struct IT_PAGE_ALIGNED table { unsigned object[IT_FOR_PROGRAMS]; };
+struct IT_PAGE_ALIGNED table { unsigned object[IT_PROGRAM_OBJECTS]; };
 
-static unsigned first_place(unsigned object)
+static unsigned first_slot(unsigned object)
 {
-    unsigned place = (object >> 2 ^ object >> 8 ^ object >> 14) & 63;
-    return place == IT_FOR_PROGRAMS ? 0 : place;
+    unsigned slot = (object >> 2 ^ object >> 8 ^ object >> 14) & 63;
+    return slot == IT_PROGRAM_OBJECTS ? 0 : slot;
 }
 
-/* Returns the number of an object, or -1 if it has none. *place is where it could go, IT_FOR_PROGRAMS if nowhere. */
-static int find(const struct table *table, unsigned object, unsigned *place)
+/* Returns the number of an object, or -1 if it has none. *slot is a free one, or IT_PROGRAM_OBJECTS. */
+static int find_object(const struct table *table, unsigned object, unsigned *slot)
 {
-    unsigned at = first_place(object);
-    *place = IT_FOR_PROGRAMS;
-    for (unsigned k = 0; k < IT_FOR_PROGRAMS; k++) {
-        if (table->object[at] == object)
-            return (int)at;
-        if (table->object[at] <= GONE && *place == IT_FOR_PROGRAMS)
-            *place = at;
-        if (table->object[at] == NEVER_USED)
+    unsigned index = first_slot(object);
+    *slot = IT_PROGRAM_OBJECTS;
+    for (unsigned k = 0; k < IT_PROGRAM_OBJECTS; k++) {
+        if (table->object[index] == object)
+            return (int)index;
+        if (table->object[index] <= DELETED && *slot == IT_PROGRAM_OBJECTS)
+            *slot = index;
+        if (table->object[index] == EMPTY)
             return -1;
-        if (++at == IT_FOR_PROGRAMS)
-            at = 0;
+        if (++index == IT_PROGRAM_OBJECTS)
+            index = 0;
     }
     return -1;
 }

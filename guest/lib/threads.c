@@ -11,76 +11,76 @@ void it_thread_entry(void);
 /* guest/build compiles this if a program detaches threads. A thread's state is stored by the thread that detaches it,
    creates it detached or has joined it. */
 enum { DETACHED = 1, JOINED = 2 };
-static struct IT_PAGE_ALIGNED { unsigned char of[IT_THREADS]; } states;
+static struct IT_PAGE_ALIGNED { unsigned char entry[IT_THREADS]; } states;
 
 int pthread_detach(pthread_t thread)
 {
-    if (thread >= IT_THREADS || states.of[thread] == JOINED)
+    if (thread >= IT_THREADS || states.entry[thread] == JOINED)
         return ESRCH;
-    if (states.of[thread] == DETACHED)
+    if (states.entry[thread] == DETACHED)
         return EINVAL;
-    states.of[thread] = DETACHED;
+    states.entry[thread] = DETACHED;
     return 0;
 }
 
 int it_is_detached(pthread_t thread)
 {
-    return states.of[thread] == DETACHED;
+    return states.entry[thread] == DETACHED;
 }
 #endif
 
 int pthread_create(pthread_t *restrict thread, const pthread_attr_t *restrict attributes, void *(*function)(void *),
                    void *restrict argument)
 {
-    struct it_beginning beginning = { function, argument };
+    struct it_start_args start_args = { function, argument };
     (void)attributes;
 #ifdef IT_SCHEDULED
-    beginning.scheduling = it_scheduling_for(attributes);
+    start_args.scheduling = it_scheduling_for(attributes);
 #endif
 #ifdef IT_SIGNALS
-    beginning.blocked = it_blocked_signals();
+    start_args.blocked = it_blocked_signals();
 #endif
-    it_shared.threads_made = 1;
+    it_shared.threads_created = 1;
     if (it_has_handlers)
-        it_call(IT_CALL_SEM_POST, IT_OTHERS, 0);
-    int answer = it_ordered_call(IT_CALL_CREATE, (unsigned)it_thread_entry, (unsigned)&beginning);
-    if (answer < 0) {
+        it_call(IT_CALL_SEM_POST, IT_OTHER_THREADS, 0);
+    int result = it_ordered_call(IT_CALL_CREATE, (unsigned)it_thread_entry, (unsigned)&start_args);
+    if (result < 0) {
         if (it_has_handlers)
-            it_call(IT_CALL_SEM_TRYWAIT, IT_OTHERS, 0);
-        return -answer;
+            it_call(IT_CALL_SEM_TRYWAIT, IT_OTHER_THREADS, 0);
+        return -result;
     }
 #ifdef IT_SCHEDULED
-    it_keep_scheduling((unsigned)answer, beginning.scheduling);
+    it_set_scheduling((unsigned)result, start_args.scheduling);
 #endif
-    it_tell_made((unsigned)answer);
+    it_record_create((unsigned)result);
 #ifdef IT_DETACHED
     if (attributes && attributes->detached)
-        states.of[answer] = DETACHED;
+        states.entry[result] = DETACHED;
 #endif
-    *thread = (pthread_t)answer;
+    *thread = (pthread_t)result;
     return 0;
 }
 
 /* The machine returns the value in a register. */
 int pthread_join(pthread_t thread, void **value)
 {
-    unsigned left;
-    if (it_self.settle)
-        it_settle();
+    unsigned returned;
+    if (it_self.io_pending)
+        it_finish_io();
 #ifdef IT_DETACHED
-    if (thread < IT_THREADS && states.of[thread])
-        return states.of[thread] == JOINED ? ESRCH : EINVAL;
+    if (thread < IT_THREADS && states.entry[thread])
+        return states.entry[thread] == JOINED ? ESRCH : EINVAL;
 #endif
     it_wait_for_end(thread);
-    int answer = it_call_value(IT_CALL_JOIN, thread, 0, &left);
-    if (answer == -IT_EDEADLK)
+    int result = it_call_value(IT_CALL_JOIN, thread, 0, &returned);
+    if (result == -IT_EDEADLK)
         return EDEADLK;
-    if (answer < 0)
-        return -answer;
+    if (result < 0)
+        return -result;
     if (value)
-        *value = (void *)left;
+        *value = (void *)returned;
 #ifdef IT_DETACHED
-    states.of[thread] = JOINED;
+    states.entry[thread] = JOINED;
 #endif
     return 0;
 }
@@ -109,7 +109,7 @@ int pthread_equal(pthread_t one, pthread_t other)
 /* POSIX.1-2017 sched_yield: ends the step, and the thread sees what others stored. Returns 0. */
 int sched_yield(void)
 {
-    int answer = it_ordered_call(IT_CALL_YIELD, 0, 0);
-    it_end_if_at_once();
-    return answer;
+    int result = it_ordered_call(IT_CALL_YIELD, 0, 0);
+    it_end_if_async_cancelled();
+    return result;
 }

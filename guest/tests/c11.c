@@ -9,10 +9,10 @@ static once_flag once = ONCE_FLAG_INIT;
 static int sum, arrived;
 static thread_local int own = 5;
 
-static void tell(const char *what, int answer)
+static void report(const char *what, int result)
 {
-    printf("%s: %s\n", what, answer == thrd_success ? "success" : answer == thrd_busy ? "busy"
-                             : answer == thrd_error ? "error" : "another");
+    printf("%s: %s\n", what, result == thrd_success ? "success" : result == thrd_busy ? "busy"
+                             : result == thrd_error ? "error" : "another");
 }
 
 static void says_once(void)
@@ -55,15 +55,15 @@ static int exits(void *argument)
 static int tries(void *unused)
 {
     (void)unused;
-    tell("tried by another", mtx_trylock(&mutex));
-    tell("tried by another", mtx_trylock(&again));
+    report("tried by another", mtx_trylock(&mutex));
+    report("tried by another", mtx_trylock(&again));
     return thrd_equal(thrd_current(), thrd_current()) != 0;
 }
 
 static int alone(void *unused)
 {
     (void)unused;
-    tell("detach", thrd_detach(thrd_current()));
+    report("detach", thrd_detach(thrd_current()));
     mtx_lock(&mutex);
     arrived = 9;
     cnd_signal(&condition);
@@ -76,19 +76,19 @@ int main(void)
     static int numbers[4] = { 1, 10, 100, 1000 };
     thrd_t threads[4];
     int value = -1, values = 0;
-    tell("plain", mtx_init(&mutex, mtx_plain));
-    tell("recursive", mtx_init(&again, mtx_plain | mtx_recursive));
-    tell("condition", cnd_init(&condition));
-    tell("key", tss_create(&key, leaves));
+    report("plain", mtx_init(&mutex, mtx_plain));
+    report("recursive", mtx_init(&again, mtx_plain | mtx_recursive));
+    report("condition", cnd_init(&condition));
+    report("key", tss_create(&key, leaves));
     printf("at first null: %d\n", tss_get(key) == NULL);
-    tell("lock", mtx_lock(&again));
-    tell("lock again", mtx_lock(&again));
-    tell("tried", mtx_trylock(&again));
-    tell("unlock", mtx_unlock(&again));
+    report("lock", mtx_lock(&again));
+    report("lock again", mtx_lock(&again));
+    report("tried", mtx_trylock(&again));
+    report("unlock", mtx_unlock(&again));
     mtx_lock(&mutex);
     int created = thrd_create(&threads[0], tries, NULL);
-    tell("join", thrd_join(threads[0], &value));
-    tell("create", created);
+    report("join", thrd_join(threads[0], &value));
+    report("create", created);
     printf("value %d\n", value);
     mtx_unlock(&mutex);
     mtx_unlock(&again);

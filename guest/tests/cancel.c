@@ -9,7 +9,7 @@ static pthread_cond_t condition = PTHREAD_COND_INITIALIZER, ready = PTHREAD_COND
 static pthread_once_t once = PTHREAD_ONCE_INIT;
 static pthread_key_t key;
 static sem_t semaphore, other, begun;
-static int waiters, once_called, may_go;
+static int waiters, once_called, released;
 static pthread_t waited_for;
 
 static void say(void *text)
@@ -29,7 +29,7 @@ static void *waits_for_condition(void *unused)
     pthread_cleanup_push(unlocks, "unlocked");
     waiters++;
     pthread_cond_signal(&ready);
-    while (!may_go)
+    while (!released)
         pthread_cond_wait(&condition, &mutex);
     pthread_cleanup_pop(1);
     return unused;
@@ -53,7 +53,7 @@ static void *joins(void *unused)
     return unused;
 }
 
-static void *may_not(void *unused)
+static void *cancel_disabled(void *unused)
 {
     int old;
     pthread_setcancelstate(PTHREAD_CANCEL_DISABLE, &old);
@@ -130,8 +130,8 @@ static void *ends(void *unused)
 static void cancel(const char *what, pthread_t thread)
 {
     void *value;
-    int answer = pthread_cancel(thread), joined = pthread_join(thread, &value);
-    printf("%s: %d %d %d\n", what, answer, joined, value == PTHREAD_CANCELED);
+    int result = pthread_cancel(thread), joined = pthread_join(thread, &value);
+    printf("%s: %d %d %d\n", what, result, joined, value == PTHREAD_CANCELED);
 }
 
 static pthread_t create(void *(*function)(void *))
@@ -165,7 +165,7 @@ static void conditions(void)
     await(2);
     cancel("the first at the condition", one);
     pthread_mutex_lock(&mutex);
-    may_go = 1;
+    released = 1;
     pthread_cond_signal(&condition);
     pthread_mutex_unlock(&mutex);
     pthread_join(two, &value);
@@ -185,7 +185,7 @@ int main(void)
     waited_for = begin(waits_for_semaphore);
     cancel("at a join", begin(joins));
     cancel("who was joined", waited_for);
-    pthread_t thread = begin(may_not);
+    pthread_t thread = begin(cancel_disabled);
     printf("cancel: %d\n", pthread_cancel(thread));
     sem_post(&semaphore);
     pthread_join(thread, &value);

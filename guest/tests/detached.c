@@ -8,9 +8,9 @@ static sem_t done, go;
 static pthread_mutex_t mutex = PTHREAD_MUTEX_INITIALIZER;
 static int count;
 
-static void tell(const char *what, int answer)
+static void report(const char *what, int result)
 {
-    printf("%s: %s\n", what, answer == 0 ? "0" : answer == EINVAL ? "EINVAL" : answer == ESRCH ? "ESRCH" : "another");
+    printf("%s: %s\n", what, result == 0 ? "0" : result == EINVAL ? "EINVAL" : result == ESRCH ? "ESRCH" : "another");
 }
 
 static void *adds(void *value)
@@ -25,7 +25,7 @@ static void *adds(void *value)
 
 static void *detaches(void *value)
 {
-    tell("by itself", pthread_detach(pthread_self()));
+    report("by itself", pthread_detach(pthread_self()));
     return adds(value);
 }
 
@@ -47,27 +47,27 @@ int main(void)
     pthread_attr_init(&attributes);
     pthread_attr_getdetachstate(&attributes, &state);
     printf("joinable at first: %d\n", state == PTHREAD_CREATE_JOINABLE);
-    tell("detached", pthread_attr_setdetachstate(&attributes, PTHREAD_CREATE_DETACHED));
+    report("detached", pthread_attr_setdetachstate(&attributes, PTHREAD_CREATE_DETACHED));
     pthread_attr_getdetachstate(&attributes, &state);
     printf("it is so: %d\n", state == PTHREAD_CREATE_DETACHED);
-    tell("create", pthread_create(&threads[0], &attributes, adds, &one));
+    report("create", pthread_create(&threads[0], &attributes, adds, &one));
     sem_wait(&done);
-    tell("join", pthread_join(threads[0], NULL));
-    tell("detach", pthread_detach(threads[0]));
-    tell("create", pthread_create(&threads[1], NULL, adds, &ten));
-    tell("detach", pthread_detach(threads[1]));
+    report("join", pthread_join(threads[0], NULL));
+    report("detach", pthread_detach(threads[0]));
+    report("create", pthread_create(&threads[1], NULL, adds, &ten));
+    report("detach", pthread_detach(threads[1]));
     sem_wait(&done);
-    tell("join", pthread_join(threads[1], NULL));
+    report("join", pthread_join(threads[1], NULL));
     int created = pthread_create(&threads[2], NULL, detaches, &hundred);
     sem_wait(&done);
-    tell("create", created);
-    tell("join", pthread_join(threads[2], NULL));
-    tell("detach again", pthread_detach(threads[2]));
-    tell("create", pthread_create(&threads[3], NULL, adds, &thousand));
+    report("create", created);
+    report("join", pthread_join(threads[2], NULL));
+    report("detach again", pthread_detach(threads[2]));
+    report("create", pthread_create(&threads[3], NULL, adds, &thousand));
     sem_wait(&done);
     for (int k = 0; k < 4; k++)
         sem_post(&go);
-    tell("join", pthread_join(threads[3], NULL));
+    report("join", pthread_join(threads[3], NULL));
     printf("count %d\n", count);
     pthread_create(&threads[4], &attributes, last, NULL);
     sem_post(&done);

@@ -22,7 +22,7 @@ static double of_bits(uint64_t bits)
     return as.number;
 }
 
-static void tell(double number)
+static void report(double number)
 {
     printf("%.0f %.1f %.2f %.6f\n", fmod(number, 1e9), fmod(number, 1e9), fmod(number, 1e8), fmod(number, 1e6));
     printf("%e %.0e %.3E %.16e\n", number, number, number, number);
@@ -37,15 +37,15 @@ int main(void)
         5e-324, 2.2250738585072014e-308, 1.7976931348623157e308, 1e100, 1e-100, 4503599627370496.5, 9007199254740993.0
     };
     for (unsigned k = 0; k < sizeof some / sizeof some[0]; k++) {
-        tell(some[k]);
-        tell(-some[k]);
+        report(some[k]);
+        report(-some[k]);
     }
     for (int k = 0; k < 60; k++) {
         double number = of_bits(drawn());
         if (isfinite(number))
-            tell(number);
-        tell((double)(int64_t)drawn() / (double)(1 << (k % 31)));
-        tell((double)(drawn() % 100000) / 1000);
+            report(number);
+        report((double)(int64_t)drawn() / (double)(1 << (k % 31)));
+        report((double)(drawn() % 100000) / 1000);
     }
     printf("%f %e %g %F %5.1f|%-8f|\n", INFINITY, -INFINITY, (double)NAN, INFINITY, INFINITY, INFINITY);
     for (int k = 0; k < 100; k++) {

@@ -13,7 +13,7 @@ static void add(const unsigned char *bytes, size_t length)
     count += (unsigned)length;
 }
 
-static void tell(const char *how)
+static void report(const char *how)
 {
     printf("%s: %u bytes %08x, at the end %d, failed %d\n", how, count, sum, feof(stdin) != 0, ferror(stdin) != 0);
     sum = count = 0;
@@ -31,16 +31,16 @@ int main(void)
         unsigned char one = (unsigned char)byte;
         add(&one, 1);
     }
-    tell("getchar");
+    report("getchar");
     while ((got = fread(bytes, 1, sizeof bytes, stdin)) > 0)
         add(bytes, got);
-    tell("fread");
+    report("fread");
     while ((got = fread(bytes, 3, 333, stdin)) > 0)
         add(bytes, 3 * got);
-    tell("fread of threes");
+    report("fread of threes");
     while (fgets((char *)bytes, 100, stdin))
         add(bytes, strlen((char *)bytes));
-    tell("fgets");
+    report("fgets");
     unsigned lines = 0, longest = 0;
     while ((length = getline(&line, &size, stdin)) > 0) {
         add((unsigned char *)line, (size_t)length);
@@ -48,7 +48,7 @@ int main(void)
         longest = length > (ssize_t)longest ? (unsigned)length : longest;
     }
     printf("lines %u, longest %u\n", lines, longest);
-    tell("getline");
+    report("getline");
     printf("seek %d\n", fseek(stdin, 5000, SEEK_SET));
     byte = getchar();
     printf("%d at %ld\n", byte, ftell(stdin));

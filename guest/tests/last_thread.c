@@ -13,8 +13,8 @@ static void handler(void)
 static void *joins_main(void *thread)
 {
     void *value = NULL;
-    int answer = pthread_join(*(pthread_t *)thread, &value);
-    printf("main ended: %d %s\n", answer, (char *)value);
+    int result = pthread_join(*(pthread_t *)thread, &value);
+    printf("main ended: %d %s\n", result, (char *)value);
     return "first";
 }
 
@@ -22,8 +22,8 @@ static void *joins_first(void *unused)
 {
     void *value = NULL;
     (void)unused;
-    int answer = pthread_join(first, &value);
-    printf("another ended: %d %s\n", answer, (char *)value);
+    int result = pthread_join(first, &value);
+    printf("another ended: %d %s\n", result, (char *)value);
     return NULL;
 }
 

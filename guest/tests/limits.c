@@ -12,22 +12,22 @@ static sem_t semaphore;
 static pthread_spinlock_t spin;
 static pthread_t sleeper;
 
-static const char *name(int answer)
+static const char *name(int result)
 {
-    return answer == 0         ? "0"
-           : answer == EPERM   ? "EPERM"
-           : answer == ESRCH   ? "ESRCH"
-           : answer == EAGAIN  ? "EAGAIN"
-           : answer == EBUSY   ? "EBUSY"
-           : answer == EINVAL  ? "EINVAL"
-           : answer == EDEADLK ? "EDEADLK"
-           : answer == ENOTSUP ? "ENOTSUP"
+    return result == 0         ? "0"
+           : result == EPERM   ? "EPERM"
+           : result == ESRCH   ? "ESRCH"
+           : result == EAGAIN  ? "EAGAIN"
+           : result == EBUSY   ? "EBUSY"
+           : result == EINVAL  ? "EINVAL"
+           : result == EDEADLK ? "EDEADLK"
+           : result == ENOTSUP ? "ENOTSUP"
                                : "another";
 }
 
-static void tell(const char *what, int answer)
+static void report(const char *what, int result)
 {
-    printf("%s: %s\n", what, name(answer));
+    printf("%s: %s\n", what, name(result));
 }
 
 static void *sleeps(void *unused)
@@ -46,7 +46,7 @@ static void *joins(void *unused)
 
 static void *unlocks(void *unused)
 {
-    tell("spin lock unlocked by another", pthread_spin_unlock(&spin));
+    report("spin lock unlocked by another", pthread_spin_unlock(&spin));
     return unused;
 }
 
@@ -65,7 +65,7 @@ static void *waits(void *unused)
 }
 
 /* until each of the others waits */
-static void let_wait(void)
+static void yield_to_waiters(void)
 {
     for (int k = 0; k < 10; k++)
         sched_yield();
@@ -76,7 +76,7 @@ static void attributes(void)
     pthread_t thread;
     pthread_spin_init(&spin, 0);
     pthread_spin_lock(&spin);
-    tell("spin lock locked again", pthread_spin_lock(&spin));
+    report("spin lock locked again", pthread_spin_lock(&spin));
     pthread_create(&thread, NULL, unlocks, NULL);
     pthread_join(thread, NULL);
 }
@@ -88,24 +88,24 @@ static void while_some_wait(void)
     sem_init(&semaphore, 1, 0);
     pthread_create(&sleeper, NULL, sleeps, NULL);
     pthread_create(&one, NULL, joins, NULL);
-    let_wait();
-    tell("join of who is joined", pthread_join(sleeper, NULL));
-    tell("semaphore destroyed while one waits", sem_destroy(&semaphore) == 0 ? 0 : errno);
+    yield_to_waiters();
+    report("join of who is joined", pthread_join(sleeper, NULL));
+    report("semaphore destroyed while one waits", sem_destroy(&semaphore) == 0 ? 0 : errno);
     sem_post(&semaphore);
     pthread_join(one, NULL);
-    tell("join of who was joined", pthread_join(sleeper, NULL));
+    report("join of who was joined", pthread_join(sleeper, NULL));
     pthread_barrier_init(&barrier, NULL, 2);
     pthread_create(&two, NULL, meets, NULL);
-    let_wait();
-    tell("barrier made anew while one waits", pthread_barrier_init(&barrier, NULL, 3));
-    tell("barrier destroyed while one waits", pthread_barrier_destroy(&barrier));
+    yield_to_waiters();
+    report("barrier made anew while one waits", pthread_barrier_init(&barrier, NULL, 3));
+    report("barrier destroyed while one waits", pthread_barrier_destroy(&barrier));
     meets(NULL);
     pthread_join(two, NULL);
     pthread_create(&three, NULL, waits, NULL);
-    let_wait();
+    yield_to_waiters();
     pthread_mutex_lock(&other);
-    tell("condition with another mutex", pthread_cond_wait(&condition, &other));
-    tell("condition without the mutex", pthread_cond_wait(&condition, &mutex));
+    report("condition with another mutex", pthread_cond_wait(&condition, &other));
+    report("condition without the mutex", pthread_cond_wait(&condition, &mutex));
     pthread_cond_signal(&condition);
     pthread_join(three, NULL);
 }
@@ -113,19 +113,19 @@ static void while_some_wait(void)
 int main(void)
 {
     pthread_t thread;
-    int threads = 1, answer;
+    int threads = 1, result;
     attributes();
-    tell("join of nobody", pthread_join(5, NULL));
-    tell("barrier of 32", pthread_barrier_init(&barrier, NULL, 32));
-    tell("barrier of 33", pthread_barrier_init(&barrier, NULL, 33));
+    report("join of nobody", pthread_join(5, NULL));
+    report("barrier of 32", pthread_barrier_init(&barrier, NULL, 32));
+    report("barrier of 33", pthread_barrier_init(&barrier, NULL, 33));
     pthread_barrier_destroy(&barrier);
     while_some_wait();
     threads += 5;
     pthread_barrier_init(&barrier, NULL, 1);
-    while ((answer = pthread_create(&thread, NULL, meets, NULL)) == 0) {
+    while ((result = pthread_create(&thread, NULL, meets, NULL)) == 0) {
         pthread_join(thread, NULL);
         threads++;
     }
-    printf("threads %d, then %s\n", threads, name(answer));
+    printf("threads %d, then %s\n", threads, name(result));
     return 0;
 }

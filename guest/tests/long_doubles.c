@@ -65,28 +65,28 @@ static void read(void)
     };
     for (unsigned k = 0; k < sizeof texts / sizeof *texts; k++) {
         long double number = -1;
-        int end = -1, answer = sscanf(texts[k], "%Lf%n", &number, &end);
-        printf("[%s]: %d %.10Lg %d\n", texts[k], answer, number, end);
+        int end = -1, result = sscanf(texts[k], "%Lf%n", &number, &end);
+        printf("[%s]: %d %.10Lg %d\n", texts[k], result, number, end);
     }
     long double one = 0, other = 0;
     double plain = 0;
-    int whole = 0, answer;
+    int whole = 0, result;
     char word[20] = "";
-    answer = sscanf("x=1.5, 42 2.75 word 8.125", "x=%Lf, %d %lf %19s %Lg", &one, &whole, &plain, word, &other);
-    printf("%d %.3Lf %d %.3f %s %.3Lf\n", answer, one, whole, plain, word, other);
-    answer = sscanf("123456", "%3Lf%*2f%Lf", &one, &other);
-    printf("%d %.1Lf %.1Lf\n", answer, one, other);
-    answer = sscanf("1.5 abc", "%Lf %Lf", &one, &other);
-    printf("%d\n", answer);
-    answer = sscanf("[ab]9", "[%[^]]]%Le", word, &one);
-    printf("%d %s %.1Lf\n", answer, word, one);
+    result = sscanf("x=1.5, 42 2.75 word 8.125", "x=%Lf, %d %lf %19s %Lg", &one, &whole, &plain, word, &other);
+    printf("%d %.3Lf %d %.3f %s %.3Lf\n", result, one, whole, plain, word, other);
+    result = sscanf("123456", "%3Lf%*2f%Lf", &one, &other);
+    printf("%d %.1Lf %.1Lf\n", result, one, other);
+    result = sscanf("1.5 abc", "%Lf %Lf", &one, &other);
+    printf("%d\n", result);
+    result = sscanf("[ab]9", "[%[^]]]%Le", word, &one);
+    printf("%d %s %.1Lf\n", result, word, one);
     long long large = 0;
-    answer = sscanf("1099511627776", "%Ld", &large);
-    printf("%d %lld\n", answer, large);
+    result = sscanf("1099511627776", "%Ld", &large);
+    printf("%d %lld\n", result, large);
     while (scanf("%Lf", &one) == 1)
         printf("read %.12Lg\n", one);
-    answer = scanf("%19s", word);
-    printf("%d %s\n", answer, word);
+    result = scanf("%19s", word);
+    printf("%d %s\n", result, word);
 }
 
 int main(void)

@@ -6,13 +6,13 @@
 #include <stdlib.h>
 #include <string.h>
 
-static void tell(const char *what, int right)
+static void report(const char *what, int right)
 {
     printf("%s: %s\n", what, right ? "yes" : "no");
 }
 
 /* A step may execute only so many instructions. */
-static void now_and_then(unsigned count)
+static void yield_periodically(unsigned count)
 {
     if (count % 1024 == 0)
         sched_yield();
@@ -22,7 +22,7 @@ static void now_and_then(unsigned count)
 static void **fill(size_t bytes)
 {
     void **last = NULL, **block;
-    for (unsigned count = 0; (block = malloc(bytes)) != NULL; now_and_then(++count)) {
+    for (unsigned count = 0; (block = malloc(bytes)) != NULL; yield_periodically(++count)) {
         memset(block, 0x55, bytes);
         *block = last;
         last = block;
@@ -30,10 +30,10 @@ static void **fill(size_t bytes)
     return last;
 }
 
-static unsigned give_back(void **block)
+static unsigned free_list(void **block)
 {
     unsigned count = 0;
-    for (void **before; block; block = before, now_and_then(++count)) {
+    for (void **before; block; block = before, yield_periodically(++count)) {
         before = *block;
         free(block);
     }
@@ -42,7 +42,7 @@ static unsigned give_back(void **block)
 
 static int is_zero(const char *bytes, size_t count)
 {
-    for (size_t k = 0; k < count; k++, now_and_then((unsigned)k))
+    for (size_t k = 0; k < count; k++, yield_periodically((unsigned)k))
         if (bytes[k])
             return 0;
     return 1;
@@ -52,35 +52,35 @@ static void limits(void)
 {
     volatile size_t most = SIZE_MAX, many = 65537;
     errno = 0;
-    tell("100 MB are too many", malloc(100000000) == NULL && errno == ENOMEM);
+    report("100 MB are too many", malloc(100000000) == NULL && errno == ENOMEM);
     errno = 0;
-    tell("as many as a size_t has, too", malloc(most) == NULL && errno == ENOMEM);
+    report("as many as a size_t has, too", malloc(most) == NULL && errno == ENOMEM);
     errno = 0;
-    tell("a product that is too large", calloc(many, many) == NULL && errno == ENOMEM);
+    report("a product that is too large", calloc(many, many) == NULL && errno == ENOMEM);
     char *kept = malloc(10);
     strcpy(kept, "kept");
     char *larger = realloc(kept, 100000000);
-    tell("realloc to too many", larger == NULL && strcmp(kept, "kept") == 0);
+    report("realloc to too many", larger == NULL && strcmp(kept, "kept") == 0);
     free(larger ? larger : kept);
     free(NULL);
     void *one = malloc(0), *other = malloc(0);
-    tell("blocks of no bytes are two", one && other && one != other);
+    report("blocks of no bytes are two", one && other && one != other);
     free(one);
     free(other);
 }
 
 static void sizes(void)
 {
-    unsigned small = give_back(fill(24));
-    tell("small blocks, over 2 MiB of them", small > 2 * 1048576 / 32);
-    tell("and again as many", give_back(fill(24)) == small);
+    unsigned small = free_list(fill(24));
+    report("small blocks, over 2 MiB of them", small > 2 * 1048576 / 32);
+    report("and again as many", free_list(fill(24)) == small);
     void *large = malloc(2 * 1048576);
-    tell("then 2 MiB in one", large != NULL);
+    report("then 2 MiB in one", large != NULL);
     free(large);
-    unsigned middle = give_back(fill(1000));
-    tell("blocks of 1,000 bytes, over 2 MiB of them", middle > 2 * 1048576 / 1024);
+    unsigned middle = free_list(fill(1000));
+    report("blocks of 1,000 bytes, over 2 MiB of them", middle > 2 * 1048576 / 1024);
     char *zeros = calloc(1048576, 1);
-    tell("1 MiB of zeros where they were", zeros && is_zero(zeros, 1048576));
+    report("1 MiB of zeros where they were", zeros && is_zero(zeros, 1048576));
     free(zeros);
 }
 
@@ -95,12 +95,12 @@ static void grows(void)
         bytes = larger;
         for (size_t k = 0; k < size / 2; k += 997)
             kept &= bytes[k] == (char)(k & 127);
-        for (size_t k = 0; k < size; k++, now_and_then((unsigned)k))
+        for (size_t k = 0; k < size; k++, yield_periodically((unsigned)k))
             bytes[k] = (char)(k & 127);
     }
-    tell("realloc keeps what it has, up to 1 MiB", kept && bytes);
+    report("realloc keeps what it has, up to 1 MiB", kept && bytes);
     bytes = realloc(bytes, 100);
-    tell("and when it gets smaller", bytes && bytes[99] == 99);
+    report("and when it gets smaller", bytes && bytes[99] == 99);
     free(bytes);
 }
 
@@ -114,9 +114,9 @@ static void alignment(void)
         free(one);
         free(other);
     }
-    tell("alignments", right);
+    report("alignments", right);
     void *block = NULL;
-    tell("an alignment that is none", posix_memalign(&block, 24, 10) == EINVAL && !block);
+    report("an alignment that is none", posix_memalign(&block, 24, 10) == EINVAL && !block);
 }
 
 int main(void)

@@ -32,10 +32,10 @@ static int semaphore(int k)
 
 static void count(const char *what, int (*init)(int))
 {
-    int made = 0, answer;
-    while (made < 66 && (answer = init(made)) == 0)
+    int made = 0, result;
+    while (made < 66 && (result = init(made)) == 0)
         made++;
-    printf("%s: %d, then %s\n", what, made, answer == EAGAIN ? "no more" : "something else");
+    printf("%s: %d, then %s\n", what, made, result == EAGAIN ? "no more" : "something else");
 }
 
 int main(void)

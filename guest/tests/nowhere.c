@@ -6,10 +6,10 @@
 #include <sys/stat.h>
 #include <unistd.h>
 
-static void tell(const char *what, int answer)
+static void report(const char *what, int result)
 {
     const char *why = errno == ENOENT ? "no such file" : errno == EBADF ? "not open" : errno == ENOTTY ? "no terminal" : "?";
-    printf("%s: %s\n", what, answer < 0 ? why : "done");
+    printf("%s: %s\n", what, result < 0 ? why : "done");
 }
 
 int main(void)
@@ -17,33 +17,33 @@ int main(void)
     struct stat status;
     int most = 100; /* descriptors above it are not open */
     FILE *file = fopen("/nowhere/at/all", "r");
-    tell("fopen", file ? 0 : -1);
-    tell("open", open("/nowhere/at/all", O_RDWR));
-    tell("stat", stat("/nowhere/at/all", &status));
-    tell("lstat", lstat("/nowhere/at/all", &status));
-    tell("the root's stat", stat("/", &status));
+    report("fopen", file ? 0 : -1);
+    report("open", open("/nowhere/at/all", O_RDWR));
+    report("stat", stat("/nowhere/at/all", &status));
+    report("lstat", lstat("/nowhere/at/all", &status));
+    report("the root's stat", stat("/", &status));
     printf("a directory: %d\n", !!S_ISDIR(status.st_mode));
-    tell("access", access("/nowhere/at/all", R_OK));
-    tell("the root's access", access("/", R_OK));
-    tell("unlink", unlink("/nowhere/at/all"));
-    tell("remove", remove("/nowhere/at/all"));
-    tell("rename", rename("/nowhere/at/all", "/nowhere/else"));
-    tell("rmdir", rmdir("/nowhere/at/all"));
-    tell("chmod", chmod("/nowhere/at/all", 0600));
-    tell("chdir", chdir("/nowhere/at/all"));
-    tell("truncate", truncate("/nowhere/at/all", 0));
-    tell("readlink", (int)readlink("/nowhere/at/all", (char *)&status, sizeof status));
-    tell("close", close(most));
-    tell("lseek", (int)lseek(most, 0, SEEK_SET));
-    tell("fstat", fstat(most, &status));
-    tell("fsync", fsync(most));
-    tell("ftruncate", ftruncate(most, 0));
-    tell("dup", dup(most));
-    tell("fcntl", fcntl(most, F_GETFD));
+    report("access", access("/nowhere/at/all", R_OK));
+    report("the root's access", access("/", R_OK));
+    report("unlink", unlink("/nowhere/at/all"));
+    report("remove", remove("/nowhere/at/all"));
+    report("rename", rename("/nowhere/at/all", "/nowhere/else"));
+    report("rmdir", rmdir("/nowhere/at/all"));
+    report("chmod", chmod("/nowhere/at/all", 0600));
+    report("chdir", chdir("/nowhere/at/all"));
+    report("truncate", truncate("/nowhere/at/all", 0));
+    report("readlink", (int)readlink("/nowhere/at/all", (char *)&status, sizeof status));
+    report("close", close(most));
+    report("lseek", (int)lseek(most, 0, SEEK_SET));
+    report("fstat", fstat(most, &status));
+    report("fsync", fsync(most));
+    report("ftruncate", ftruncate(most, 0));
+    report("dup", dup(most));
+    report("fcntl", fcntl(most, F_GETFD));
     printf("isatty: %d\n", isatty(0));
-    tell("isatty", -1);
+    report("isatty", -1);
     printf("isatty of none: %d\n", isatty(most));
-    tell("isatty of none", -1);
-    tell("fstat of stdin", fstat(0, &status));
+    report("isatty of none", -1);
+    report("fstat of stdin", fstat(0, &status));
     return 0;
 }

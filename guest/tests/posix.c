@@ -15,9 +15,9 @@
 #include <sysexits.h>
 #include <unistd.h>
 
-static void tell(const char *what, int answer)
+static void report(const char *what, int result)
 {
-    printf("%s: %d%s\n", what, answer, answer != -1 ? "" : errno == EBADF ? " EBADF" : errno == ENOENT ? " ENOENT" : " ?");
+    printf("%s: %d%s\n", what, result, result != -1 ? "" : errno == EBADF ? " EBADF" : errno == ENOENT ? " ENOENT" : " ?");
 }
 
 static int compare(const void *one, const void *other)
@@ -41,19 +41,19 @@ static void streams(void)
 {
     fpos_t place;
     int first = 0, second = 0, third = 0;
-    tell("read", scanf("%d", &first));
-    tell("place", fgetpos(stdin, &place));
-    tell("read", scanf("%d", &second));
-    tell("set", fsetpos(stdin, &place));
-    tell("read", scanf("%d", &third));
+    report("read", scanf("%d", &first));
+    report("place", fgetpos(stdin, &place));
+    report("read", scanf("%d", &second));
+    report("set", fsetpos(stdin, &place));
+    report("read", scanf("%d", &third));
     printf("%d %d %d\n", first, second, third);
     fflush(stdout);
     dprintf(STDOUT_FILENO, "number %d, word %s\n", 7, "seven");
-    tell("no such descriptor", dprintf(77, "never"));
+    report("no such descriptor", dprintf(77, "never"));
     fflush(stdout);
     struct iovec pieces[] = { { "one, ", 5 }, { "", 0 }, { "two\n", 4 } };
-    tell("written", (int)writev(STDOUT_FILENO, pieces, 3));
-    tell("no such descriptor", (int)writev(77, pieces, 3));
+    report("written", (int)writev(STDOUT_FILENO, pieces, 3));
+    report("no such descriptor", (int)writev(77, pieces, 3));
 }
 
 static void memory(void)
@@ -77,9 +77,9 @@ static void texts(void)
     wchar_t wide[8] = { 0 };
     char narrow[8] = "";
     printf("%d characters\n", (int)mbstowcs(NULL, "text", 0));
-    tell("of them", (int)mbstowcs(wide, "text", 8));
-    tell("of them at most", (int)mbstowcs(wide, "other", 2));
-    tell("back", (int)wcstombs(narrow, wide, sizeof narrow));
+    report("of them", (int)mbstowcs(wide, "text", 8));
+    report("of them at most", (int)mbstowcs(wide, "other", 2));
+    report("back", (int)wcstombs(narrow, wide, sizeof narrow));
     puts(narrow);
     printf("%s, %s, %s\n", gettext("text"), ngettext("one", "many", 1), ngettext("one", "many", 2));
     printf("%d %d %d\n", EX_OK, EX_USAGE, EX_CONFIG);
@@ -90,14 +90,14 @@ static void system_has(void)
     struct stat status;
     struct utsname name;
     char path[4096];
-    tell("uname", uname(&name));
+    report("uname", uname(&name));
     printf("real path %s\n", realpath("/.//..", path));
-    tell("not there", realpath("/none", path) ? 0 : -1);
-    tell("the directory", fstatat(AT_FDCWD, "/", &status, 0));
-    tell("is one", S_ISDIR(status.st_mode) != 0);
-    tell("may be read", faccessat(AT_FDCWD, "/", R_OK, 0));
-    tell("not there", unlinkat(AT_FDCWD, "/none", 0));
-    tell("longest name", (int)pathconf("/", _PC_NAME_MAX));
+    report("not there", realpath("/none", path) ? 0 : -1);
+    report("the directory", fstatat(AT_FDCWD, "/", &status, 0));
+    report("is one", S_ISDIR(status.st_mode) != 0);
+    report("may be read", faccessat(AT_FDCWD, "/", R_OK, 0));
+    report("not there", unlinkat(AT_FDCWD, "/none", 0));
+    report("longest name", (int)pathconf("/", _PC_NAME_MAX));
 }
 
 static void *prints(void *letter)

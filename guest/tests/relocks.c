@@ -4,7 +4,7 @@
 
 static pthread_mutex_t mutex;
 
-static void *goes_on(void *unused)
+static void *continues(void *unused)
 {
     printf("goes on\n");
     return unused;
@@ -17,7 +17,7 @@ int main(void)
     pthread_mutexattr_init(&attributes);
     pthread_mutexattr_settype(&attributes, PTHREAD_MUTEX_NORMAL);
     pthread_mutex_init(&mutex, &attributes);
-    pthread_create(&thread, NULL, goes_on, NULL);
+    pthread_create(&thread, NULL, continues, NULL);
     pthread_mutex_lock(&mutex);
     pthread_mutex_lock(&mutex);
     printf("never\n");

@@ -30,10 +30,10 @@ int main(void)
     for (uintptr_t k = 0; k < 31; k++) {
         pthread_t thread;
         void *value;
-        int answer = pthread_create(&thread, NULL, k % 2 ? leaves : returns, (void *)k);
-        if (answer == 0)
-            answer = pthread_join(thread, &value);
-        printf("%d: %d %d\n", (int)k, answer, (int)(uintptr_t)value);
+        int result = pthread_create(&thread, NULL, k % 2 ? leaves : returns, (void *)k);
+        if (result == 0)
+            result = pthread_join(thread, &value);
+        printf("%d: %d %d\n", (int)k, result, (int)(uintptr_t)value);
     }
     return 5;
 }

@@ -9,9 +9,9 @@ static pthread_rwlock_t lock = PTHREAD_RWLOCK_INITIALIZER;
 static pthread_barrier_t all_read;
 static int sum, twice;
 
-static void tell(const char *what, int answer)
+static void report(const char *what, int result)
 {
-    printf("%s: %s\n", what, answer == 0 ? "0" : answer == EBUSY ? "EBUSY" : answer == EDEADLK ? "EDEADLK" : "another");
+    printf("%s: %s\n", what, result == 0 ? "0" : result == EBUSY ? "EBUSY" : result == EDEADLK ? "EDEADLK" : "another");
 }
 
 /* Reaches the barrier with the lock held to read: no reader may wait for another. No thread wants to write yet. */
@@ -47,9 +47,9 @@ static void *writes(void *unused)
 
 static void *tries(void *what)
 {
-    int answer = pthread_rwlock_trywrlock(&lock);
-    tell(what, answer);
-    if (answer == 0)
+    int result = pthread_rwlock_trywrlock(&lock);
+    report(what, result);
+    if (result == 0)
         pthread_rwlock_unlock(&lock);
     return NULL;
 }
@@ -82,33 +82,33 @@ int main(void)
     int kind = -1;
     threads_share();
     tried_by_another("tried while free");
-    tell("read", pthread_rwlock_rdlock(&lock));
+    report("read", pthread_rwlock_rdlock(&lock));
     tried_by_another("tried while read");
-    tell("read more", pthread_rwlock_rdlock(&lock));
-    tell("and more", pthread_rwlock_rdlock(&lock));
-    tell("unlocked", pthread_rwlock_unlock(&lock));
-    tell("unlocked", pthread_rwlock_unlock(&lock));
+    report("read more", pthread_rwlock_rdlock(&lock));
+    report("and more", pthread_rwlock_rdlock(&lock));
+    report("unlocked", pthread_rwlock_unlock(&lock));
+    report("unlocked", pthread_rwlock_unlock(&lock));
     tried_by_another("tried while read once");
-    tell("unlocked", pthread_rwlock_unlock(&lock));
+    report("unlocked", pthread_rwlock_unlock(&lock));
     tried_by_another("tried while free again");
-    tell("written", pthread_rwlock_wrlock(&lock));
+    report("written", pthread_rwlock_wrlock(&lock));
     tried_by_another("tried while written");
-    tell("written again", pthread_rwlock_wrlock(&lock));
-    tell("read by its writer", pthread_rwlock_rdlock(&lock));
-    tell("unlocked", pthread_rwlock_unlock(&lock));
-    tell("destroyed", pthread_rwlock_destroy(&lock));
-    tell("attributes", pthread_rwlockattr_init(&attributes));
-    tell("shared", pthread_rwlockattr_setpshared(&attributes, PTHREAD_PROCESS_SHARED));
-    tell("first kind", pthread_rwlockattr_getkind_np(&attributes, &kind));
+    report("written again", pthread_rwlock_wrlock(&lock));
+    report("read by its writer", pthread_rwlock_rdlock(&lock));
+    report("unlocked", pthread_rwlock_unlock(&lock));
+    report("destroyed", pthread_rwlock_destroy(&lock));
+    report("attributes", pthread_rwlockattr_init(&attributes));
+    report("shared", pthread_rwlockattr_setpshared(&attributes, PTHREAD_PROCESS_SHARED));
+    report("first kind", pthread_rwlockattr_getkind_np(&attributes, &kind));
     printf("kind %d\n", kind == PTHREAD_RWLOCK_DEFAULT_NP);
-    tell("kind", pthread_rwlockattr_setkind_np(&attributes, PTHREAD_RWLOCK_PREFER_WRITER_NONRECURSIVE_NP));
-    tell("another kind", pthread_rwlockattr_setkind_np(&attributes, 7));
-    tell("kept kind", pthread_rwlockattr_getkind_np(&attributes, &kind));
+    report("kind", pthread_rwlockattr_setkind_np(&attributes, PTHREAD_RWLOCK_PREFER_WRITER_NONRECURSIVE_NP));
+    report("another kind", pthread_rwlockattr_setkind_np(&attributes, 7));
+    report("kept kind", pthread_rwlockattr_getkind_np(&attributes, &kind));
     printf("kind %d\n", kind == PTHREAD_RWLOCK_PREFER_WRITER_NONRECURSIVE_NP);
-    tell("init", pthread_rwlock_init(&lock, &attributes));
-    tell("read", pthread_rwlock_rdlock(&lock));
-    tell("unlocked", pthread_rwlock_unlock(&lock));
-    tell("destroyed", pthread_rwlock_destroy(&lock));
-    tell("attributes", pthread_rwlockattr_destroy(&attributes));
+    report("init", pthread_rwlock_init(&lock, &attributes));
+    report("read", pthread_rwlock_rdlock(&lock));
+    report("unlocked", pthread_rwlock_unlock(&lock));
+    report("destroyed", pthread_rwlock_destroy(&lock));
+    report("attributes", pthread_rwlockattr_destroy(&attributes));
     return 0;
 }

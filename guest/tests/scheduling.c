@@ -7,9 +7,9 @@
 #include <stdlib.h>
 #include <string.h>
 
-static void tell(const char *what, int answer)
+static void report(const char *what, int result)
 {
-    printf("%s: %s\n", what, answer == 0 ? "0" : answer == EINVAL ? "EINVAL" : answer == ERANGE ? "ERANGE" : "another");
+    printf("%s: %s\n", what, result == 0 ? "0" : result == EINVAL ? "EINVAL" : result == ERANGE ? "ERANGE" : "another");
 }
 
 static void *inherits(void *unused)
@@ -27,7 +27,7 @@ static void *works(void *unused)
     void *address;
     size_t size;
     char local;
-    tell("attributes of a thread", pthread_getattr_np(pthread_self(), &attributes));
+    report("attributes of a thread", pthread_getattr_np(pthread_self(), &attributes));
     pthread_attr_getstack(&attributes, &address, &size);
     printf("a local variable is on its stack: %d\n", &local >= (char *)address && &local < (char *)address + size);
     pthread_attr_destroy(&attributes);
@@ -52,35 +52,35 @@ static void attributes_of_threads(void)
     printf("other: %d\n", number == SCHED_OTHER);
     pthread_attr_getinheritsched(&attributes, &number);
     printf("inherited: %d\n", number == PTHREAD_INHERIT_SCHED);
-    tell("no such policy", pthread_attr_setschedpolicy(&attributes, 77));
-    tell("priority 0 of other", pthread_attr_setschedparam(&attributes, &parameters));
+    report("no such policy", pthread_attr_setschedpolicy(&attributes, 77));
+    report("priority 0 of other", pthread_attr_setschedparam(&attributes, &parameters));
     parameters.sched_priority = 5;
-    tell("priority 5 of other", pthread_attr_setschedparam(&attributes, &parameters));
-    tell("fifo", pthread_attr_setschedpolicy(&attributes, SCHED_FIFO));
-    tell("priority 5 of fifo", pthread_attr_setschedparam(&attributes, &parameters));
+    report("priority 5 of other", pthread_attr_setschedparam(&attributes, &parameters));
+    report("fifo", pthread_attr_setschedpolicy(&attributes, SCHED_FIFO));
+    report("priority 5 of fifo", pthread_attr_setschedparam(&attributes, &parameters));
     parameters.sched_priority = 100;
-    tell("priority 100 of fifo", pthread_attr_setschedparam(&attributes, &parameters));
+    report("priority 100 of fifo", pthread_attr_setschedparam(&attributes, &parameters));
     pthread_attr_getschedparam(&attributes, &parameters);
     printf("priority %d\n", parameters.sched_priority);
-    tell("explicit", pthread_attr_setinheritsched(&attributes, PTHREAD_EXPLICIT_SCHED));
-    tell("inherit", pthread_attr_setinheritsched(&attributes, PTHREAD_INHERIT_SCHED));
-    tell("no such one", pthread_attr_setinheritsched(&attributes, 77));
-    tell("a stack of 1 MiB", pthread_attr_setstacksize(&attributes, 1048576));
+    report("explicit", pthread_attr_setinheritsched(&attributes, PTHREAD_EXPLICIT_SCHED));
+    report("inherit", pthread_attr_setinheritsched(&attributes, PTHREAD_INHERIT_SCHED));
+    report("no such one", pthread_attr_setinheritsched(&attributes, 77));
+    report("a stack of 1 MiB", pthread_attr_setstacksize(&attributes, 1048576));
     pthread_attr_getstacksize(&attributes, &size);
     printf("size %d\n", (int)size);
-    tell("a small stack", pthread_attr_setstacksize(&attributes, 1000));
-    tell("a guard", pthread_attr_setguardsize(&attributes, 8192));
+    report("a small stack", pthread_attr_setstacksize(&attributes, 1000));
+    report("a guard", pthread_attr_setguardsize(&attributes, 8192));
     pthread_attr_getguardsize(&attributes, &size);
     printf("size %d\n", (int)size);
     number = pthread_create(&thread, &attributes, works, NULL);
-    tell("join", pthread_join(thread, NULL));
-    tell("create", number);
-    tell("a stack", pthread_attr_setstack(&attributes, stack, 262144));
+    report("join", pthread_join(thread, NULL));
+    report("create", number);
+    report("a stack", pthread_attr_setstack(&attributes, stack, 262144));
     pthread_attr_getstack(&attributes, &address, &size);
     printf("it is so: %d %d\n", address == stack, (int)size);
     number = pthread_create(&thread, &attributes, works, NULL);
-    tell("join", pthread_join(thread, NULL));
-    tell("create", number);
+    report("join", pthread_join(thread, NULL));
+    report("create", number);
     free(stack);
 }
 
@@ -90,26 +90,26 @@ int main(void)
     int policy = -1;
     char name[16] = "";
     attributes_of_threads();
-    tell("policy of main", pthread_getschedparam(pthread_self(), &policy, &parameters));
+    report("policy of main", pthread_getschedparam(pthread_self(), &policy, &parameters));
     printf("%d %d\n", policy == SCHED_OTHER, parameters.sched_priority);
-    tell("set again", pthread_setschedparam(pthread_self(), SCHED_OTHER, &parameters));
-    tell("no such policy", pthread_setschedparam(pthread_self(), 77, &parameters));
+    report("set again", pthread_setschedparam(pthread_self(), SCHED_OTHER, &parameters));
+    report("no such policy", pthread_setschedparam(pthread_self(), 77, &parameters));
     printf("other %d to %d\n", sched_get_priority_min(SCHED_OTHER), sched_get_priority_max(SCHED_OTHER));
     printf("fifo %d to %d\n", sched_get_priority_min(SCHED_FIFO), sched_get_priority_max(SCHED_FIFO));
     printf("none %d\n", sched_get_priority_min(77));
     pthread_t thread;
     pthread_create(&thread, NULL, inherits, NULL);
     pthread_join(thread, NULL);
-    tell("concurrency", pthread_setconcurrency(4));
+    report("concurrency", pthread_setconcurrency(4));
     printf("%d\n", pthread_getconcurrency());
-    tell("below 0", pthread_setconcurrency(-1));
-    tell("atfork", pthread_atfork(nothing, nothing, nothing));
-    tell("named", pthread_setname_np(pthread_self(), "a name"));
-    tell("its name", pthread_getname_np(pthread_self(), name, sizeof name));
+    report("below 0", pthread_setconcurrency(-1));
+    report("atfork", pthread_atfork(nothing, nothing, nothing));
+    report("named", pthread_setname_np(pthread_self(), "a name"));
+    report("its name", pthread_getname_np(pthread_self(), name, sizeof name));
     printf("%s\n", name);
     cpu_set_t all, one;
     CPU_ZERO(&one);
-    tell("processors", pthread_getaffinity_np(pthread_self(), sizeof all, &all));
+    report("processors", pthread_getaffinity_np(pthread_self(), sizeof all, &all));
     printf("some: %d\n", CPU_COUNT(&all) > 0);
     printf("none: %d\n", sched_setaffinity(0, sizeof one, &one));
     int first = 0; /* of those that the program may run on; natively that may not be processor 0 */
@@ -119,6 +119,6 @@ int main(void)
     printf("one: %d\n", sched_setaffinity(0, sizeof one, &one));
     sched_getaffinity(0, sizeof all, &all);
     printf("it is so: %d\n", CPU_EQUAL(&all, &one));
-    tell("a long name", pthread_setname_np(pthread_self(), "a name of sixteen and more"));
+    report("a long name", pthread_setname_np(pthread_self(), "a name of sixteen and more"));
     return 0;
 }

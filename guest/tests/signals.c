@@ -11,9 +11,9 @@
 
 static sigjmp_buf back;
 
-static void tell(const char *what, int answer)
+static void report(const char *what, int result)
 {
-    printf("%s: %d %s\n", what, answer, answer == -1 ? errno == EINVAL ? "EINVAL" : errno == ESRCH ? "ESRCH"
+    printf("%s: %d %s\n", what, result, result == -1 ? errno == EINVAL ? "EINVAL" : errno == ESRCH ? "ESRCH"
            : errno == EINTR ? "EINTR" : "another" : "");
 }
 
@@ -34,7 +34,7 @@ static void caught(int number)
     printf("caught %d, blocked %d %d\n", number, sigismember(&now, SIGUSR1), sigismember(&now, SIGUSR2));
 }
 
-static void told(int number, siginfo_t *info, void *context)
+static void print_info(int number, siginfo_t *info, void *context)
 {
     (void)context;
     printf("told %d %d of %d by this process %d: %d\n", number, info->si_signo, info->si_code,
@@ -55,7 +55,7 @@ static void again(int number)
     depth--;
 }
 
-static void act(int number, void (*handler)(int), int flags, sigset_t mask)
+static void set_action(int number, void (*handler)(int), int flags, sigset_t mask)
 {
     struct sigaction action;
     memset(&action, 0, sizeof action);
@@ -71,18 +71,18 @@ static void handlers(void)
     sigemptyset(&none);
     printf("before: %d\n", signal(SIGUSR1, caught) == SIG_DFL);
     printf("then: %d\n", signal(SIGUSR1, caught) == caught);
-    tell("raise", raise(SIGUSR1));
-    tell("kill", kill(getpid(), SIGUSR1));
-    tell("of this thread", pthread_kill(pthread_self(), SIGUSR1));
-    act(SIGUSR2, caught, SA_RESETHAND, set_of(SIGUSR1, 0));
+    report("raise", raise(SIGUSR1));
+    report("kill", kill(getpid(), SIGUSR1));
+    report("of this thread", pthread_kill(pthread_self(), SIGUSR1));
+    set_action(SIGUSR2, caught, SA_RESETHAND, set_of(SIGUSR1, 0));
     raise(SIGUSR2);
     struct sigaction now;
     sigaction(SIGUSR2, NULL, &now);
     printf("reset: %d\n", now.sa_handler == SIG_DFL);
-    act(SIGUSR2, again, SA_NODEFER, none);
+    set_action(SIGUSR2, again, SA_NODEFER, none);
     raise(SIGUSR2);
-    act(SIGUSR2, caught, 0, both);
-    act(SIGUSR1, caught, 0, none);
+    set_action(SIGUSR2, caught, 0, both);
+    set_action(SIGUSR1, caught, 0, none);
     sigprocmask(SIG_BLOCK, &both, NULL);
     raise(SIGUSR1), raise(SIGUSR1), raise(SIGUSR2);
     sigset_t waiting;
@@ -91,7 +91,7 @@ static void handlers(void)
            sigismember(&waiting, SIGTERM));
     puts("both");
     sigprocmask(SIG_UNBLOCK, &both, NULL);
-    act(SIGUSR1, caught, 0, both);
+    set_action(SIGUSR1, caught, 0, both);
     sigprocmask(SIG_BLOCK, &both, NULL);
     raise(SIGUSR2), raise(SIGUSR1);
     puts("one after the other");
@@ -106,7 +106,7 @@ static void values(void)
 {
     sigset_t set = set_of(SIGRTMIN, SIGRTMIN + 1);
     struct sigaction action = { .sa_flags = SA_SIGINFO };
-    action.sa_sigaction = told;
+    action.sa_sigaction = print_info;
     sigemptyset(&action.sa_mask);
     sigaction(SIGRTMIN, &action, NULL);
     sigaction(SIGRTMIN + 1, &action, NULL);
@@ -119,16 +119,16 @@ static void values(void)
         sigqueue(getpid(), SIGRTMIN, (union sigval) { .sival_int = k });
     }
     siginfo_t info;
-    tell("waited", sigwaitinfo(&set, &info) - SIGRTMIN);
+    report("waited", sigwaitinfo(&set, &info) - SIGRTMIN);
     printf("with %d by %d\n", info.si_value.sival_int, info.si_code);
     int number;
-    tell("waited", sigwait(&set, &number));
+    report("waited", sigwait(&set, &number));
     printf("for %d\n", number - SIGRTMIN);
     sigprocmask(SIG_UNBLOCK, &set, NULL);
     set = set_of(SIGTERM, 0);
     sigprocmask(SIG_BLOCK, &set, NULL);
     raise(SIGTERM);
-    tell("waited", sigwaitinfo(&set, &info));
+    report("waited", sigwaitinfo(&set, &info));
     printf("by %d\n", info.si_code);
     raise(SIGTERM);
     signal(SIGTERM, SIG_IGN);
@@ -142,24 +142,24 @@ static void values(void)
 static void jump(void)
 {
     sigset_t now;
-    act(SIGUSR1, jumps, 0, set_of(SIGUSR2, 0));
+    set_action(SIGUSR1, jumps, 0, set_of(SIGUSR2, 0));
     int number = sigsetjmp(back, 1);
     if (number == 0)
         raise(SIGUSR1);
     sigprocmask(SIG_BLOCK, NULL, &now);
     printf("jumped with %d, blocked %d %d\n", number, sigismember(&now, SIGUSR1), sigismember(&now, SIGUSR2));
-    act(SIGUSR1, caught, 0, set_of(SIGTERM, 0));
+    set_action(SIGUSR1, caught, 0, set_of(SIGTERM, 0));
     now = set_of(SIGUSR1, 0);
     sigprocmask(SIG_BLOCK, &now, NULL);
     raise(SIGUSR1);
     sigemptyset(&now);
-    tell("suspended", sigsuspend(&now));
+    report("suspended", sigsuspend(&now));
     raise(SIGUSR1);
-    tell("unblocked", sigrelse(SIGUSR1));
-    tell("blocked", sighold(SIGUSR2));
+    report("unblocked", sigrelse(SIGUSR1));
+    report("blocked", sighold(SIGUSR2));
     printf("held: %d\n", sigset(SIGUSR2, caught) == SIG_HOLD);
-    tell("unnoticed", sigignore(SIGUSR2));
-    tell("raise", raise(SIGUSR2));
+    report("unnoticed", sigignore(SIGUSR2));
+    report("raise", raise(SIGUSR2));
     printf("held now: %d\n", sigset(SIGUSR2, SIG_HOLD) == SIG_IGN);
 }
 
@@ -168,23 +168,23 @@ static void errors(void)
     struct sigaction action = { .sa_handler = SIG_IGN };
     sigset_t set;
     sigemptyset(&set);
-    tell("none", raise(0));
-    tell("such a signal", raise(65));
-    tell("of the process", kill(getpid(), -1));
-    tell("of the process, none", kill(getpid(), 0));
-    tell("of another process", kill(99999999, SIGTERM));
-    tell("catch SIGKILL", sigaction(SIGKILL, &action, NULL));
-    tell("ask for SIGKILL", sigaction(SIGKILL, NULL, &action));
-    tell("catch 65", sigaction(65, NULL, &action));
-    tell("ignore SIGSTOP", signal(SIGSTOP, SIG_IGN) == SIG_ERR ? -1 : 0);
-    tell("add 0", sigaddset(&set, 0));
-    tell("add 65", sigaddset(&set, 65));
-    tell("add 64", sigaddset(&set, 64));
-    tell("has 64", sigismember(&set, 64));
-    tell("delete 64", sigdelset(&set, 64));
-    tell("has 64", sigismember(&set, 64));
-    tell("mask", sigprocmask(7, &set, NULL));
-    tell("mask of a thread", pthread_sigmask(7, &set, NULL) == EINVAL);
+    report("none", raise(0));
+    report("such a signal", raise(65));
+    report("of the process", kill(getpid(), -1));
+    report("of the process, none", kill(getpid(), 0));
+    report("of another process", kill(99999999, SIGTERM));
+    report("catch SIGKILL", sigaction(SIGKILL, &action, NULL));
+    report("ask for SIGKILL", sigaction(SIGKILL, NULL, &action));
+    report("catch 65", sigaction(65, NULL, &action));
+    report("ignore SIGSTOP", signal(SIGSTOP, SIG_IGN) == SIG_ERR ? -1 : 0);
+    report("add 0", sigaddset(&set, 0));
+    report("add 65", sigaddset(&set, 65));
+    report("add 64", sigaddset(&set, 64));
+    report("has 64", sigismember(&set, 64));
+    report("delete 64", sigdelset(&set, 64));
+    report("has 64", sigismember(&set, 64));
+    report("mask", sigprocmask(7, &set, NULL));
+    report("mask of a thread", pthread_sigmask(7, &set, NULL) == EINVAL);
     sigfillset(&set);
     sigprocmask(SIG_SETMASK, &set, NULL);
     sigprocmask(SIG_SETMASK, NULL, &set);

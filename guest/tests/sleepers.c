@@ -18,8 +18,8 @@ static void catches(int number)
 static void *sleeps(void *unused)
 {
     struct timespec length = { 1000, 0 }, rest = { 0, 0 };
-    int answer = nanosleep(&length, &rest), error = errno;
-    printf("%d %d, caught %d, rest %d\n", answer, error == EINTR, caught == SIGUSR1, rest.tv_sec > 0);
+    int result = nanosleep(&length, &rest), error = errno;
+    printf("%d %d, caught %d, rest %d\n", result, error == EINTR, caught == SIGUSR1, rest.tv_sec > 0);
     return unused;
 }
 
@@ -30,8 +30,8 @@ static void *sleeps_on(void *unused)
     sigaddset(&set, SIGUSR1);
     pthread_sigmask(SIG_BLOCK, &set, NULL);
     struct timespec length = { 0, 300000000 };
-    int answer = nanosleep(&length, NULL);
-    printf("%d, caught %d\n", answer, caught != 0);
+    int result = nanosleep(&length, NULL);
+    printf("%d, caught %d\n", result, caught != 0);
     pthread_sigmask(SIG_UNBLOCK, &set, NULL);
     printf("caught %d\n", caught == SIGUSR1);
     return unused;
@@ -40,8 +40,8 @@ static void *sleeps_on(void *unused)
 static void *sleeps_by_c11(void *unused)
 {
     struct timespec length = { 1000, 0 }, none = { 0, 1000000000 }, rest = { 0, 0 };
-    int answer = thrd_sleep(&length, &rest);
-    printf("%d, caught %d, rest %d\n", answer, caught == SIGUSR1, rest.tv_sec > 0);
+    int result = thrd_sleep(&length, &rest);
+    printf("%d, caught %d, rest %d\n", result, caught == SIGUSR1, rest.tv_sec > 0);
     printf("no time: %d\n", thrd_sleep(&none, NULL) < -1);
     return unused;
 }

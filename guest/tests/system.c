@@ -50,8 +50,8 @@ int main(void)
     printf("reader-writer locks: %ld %ld\n", sysconf(_SC_READER_WRITER_LOCKS), (long)_POSIX_READER_WRITER_LOCKS);
     printf("rounds of destructors: %ld\n", sysconf(_SC_THREAD_DESTRUCTOR_ITERATIONS));
     errno = 0;
-    long answer = sysconf(-1);
-    printf("no such name: %ld %d\n", answer, errno == EINVAL);
+    long result = sysconf(-1);
+    printf("no such name: %ld %d\n", result, errno == EINVAL);
     printf("process: %d %d\n", getpid() > 0, getppid() != getpid());
     printf("user: %d %d\n", getuid() == geteuid(), getgid() == getegid());
     printf("become who one is: %d %d\n", setuid(getuid()), setgid(getgid()));

@@ -21,7 +21,7 @@ static pthread_mutex_t held = PTHREAD_MUTEX_INITIALIZER, mutex = PTHREAD_MUTEX_I
 static pthread_cond_t condition = PTHREAD_COND_INITIALIZER;
 static pthread_rwlock_t read_by_main = PTHREAD_RWLOCK_INITIALIZER, lock = PTHREAD_RWLOCK_INITIALIZER;
 static sem_t items;
-static int made, taken, waiting, woken, told, sum, twice;
+static int made, taken, waiting, woken, signalled, sum, twice;
 
 static struct timespec after(int milliseconds)
 {
@@ -35,7 +35,7 @@ static struct timespec after(int milliseconds)
     return time;
 }
 
-static int is_over(struct timespec time)
+static int has_passed(struct timespec time)
 {
     struct timespec now = after(0);
     return now.tv_sec > time.tv_sec || (now.tv_sec == time.tv_sec && now.tv_nsec >= time.tv_nsec);
@@ -57,14 +57,14 @@ static void *alone(void *argument)
     struct own *own = argument;
     struct timespec none = { 0, 1000000000 }, end = after(SHORT);
     pthread_mutex_lock(&own->mutex);
-    own->nobody_signals = pthread_cond_timedwait(&own->condition, &own->mutex, &end) == ETIMEDOUT && is_over(end);
+    own->nobody_signals = pthread_cond_timedwait(&own->condition, &own->mutex, &end) == ETIMEDOUT && has_passed(end);
     own->nobody_signals &= pthread_mutex_unlock(&own->mutex) == 0;
     end = after(SHORT);
-    own->nobody_posts = sem_timedwait(&own->none, &end) == -1 && errno == ETIMEDOUT && is_over(end);
+    own->nobody_posts = sem_timedwait(&own->none, &end) == -1 && errno == ETIMEDOUT && has_passed(end);
     end = after(SHORT);
-    own->nobody_unlocks = pthread_mutex_timedlock(&held, &end) == ETIMEDOUT && is_over(end);
+    own->nobody_unlocks = pthread_mutex_timedlock(&held, &end) == ETIMEDOUT && has_passed(end);
     end = after(SHORT);
-    own->nobody_reads_no_more = pthread_rwlock_timedwrlock(&read_by_main, &end) == ETIMEDOUT && is_over(end);
+    own->nobody_reads_no_more = pthread_rwlock_timedwrlock(&read_by_main, &end) == ETIMEDOUT && has_passed(end);
     own->no_time = pthread_rwlock_timedwrlock(&read_by_main, &none) == EINVAL;
     end = after(SHORT);
     own->somebody_posted = sem_timedwait(&own->some, &end) == 0;
@@ -73,7 +73,7 @@ static void *alone(void *argument)
     return NULL;
 }
 
-static void tell(const char *what, size_t offset)
+static void report(const char *what, size_t offset)
 {
     printf("%s:", what);
     for (int k = 0; k < THREADS; k++)
@@ -81,7 +81,7 @@ static void tell(const char *what, size_t offset)
     printf("\n");
 }
 
-#define TELL(what, answer) tell(what, (size_t)((const char *)&own[0].answer - (const char *)&own[0]))
+#define TELL(what, result) report(what, (size_t)((const char *)&own[0].result - (const char *)&own[0]))
 
 static void each_for_itself(void)
 {
@@ -109,7 +109,7 @@ static void each_for_itself(void)
 /* ---------------------------------------------------------------------------------------------- until it comes ---- */
 
 /* Half of them produce items, and half consume as many. */
-static void *hands_on(void *argument)
+static void *relays(void *argument)
 {
     struct timespec end;
     for (int k = 0; k < ITEMS; k++) {
@@ -133,9 +133,9 @@ static void *hands_on(void *argument)
 static void *takes(void *unused)
 {
     for (int k = 0; k < 2 * ITEMS / THREADS; k++)
-        for (int answer = -1; answer != 0;) {
+        for (int result = -1; result != 0;) {
             struct timespec end = after(SHORT);
-            answer = sem_timedwait(&items, &end);
+            result = sem_timedwait(&items, &end);
         }
     return unused;
 }
@@ -177,7 +177,7 @@ static void *waits(void *argument)
 {
     pthread_mutex_lock(&mutex);
     waiting++;
-    while (!told) {
+    while (!signalled) {
         struct timespec end = after(SHORT);
         if ((struct own *)argument - own < THREADS / 2)
             pthread_cond_timedwait(&condition, &mutex, &end);
@@ -196,7 +196,7 @@ static void *broadcasts(void *unused)
         nanosleep(&moment, NULL);
         pthread_mutex_lock(&mutex);
         if ((all = waiting == THREADS)) {
-            told = 1;
+            signalled = 1;
             pthread_cond_broadcast(&condition);
         }
         pthread_mutex_unlock(&mutex);
@@ -208,7 +208,7 @@ static void until_it_comes(void)
 {
     pthread_t thread;
     sem_init(&items, 0, 0);
-    with_each(hands_on);
+    with_each(relays);
     printf("%d made, %d taken\n", made, taken);
     with_each(takes);
     printf("all posts are taken: %s\n", sem_trywait(&items) == -1 && errno == EAGAIN ? "yes" : "no");

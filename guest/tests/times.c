@@ -10,7 +10,7 @@
 static pthread_mutex_t mutex = PTHREAD_MUTEX_INITIALIZER, held = PTHREAD_MUTEX_INITIALIZER;
 static pthread_cond_t condition = PTHREAD_COND_INITIALIZER;
 static sem_t semaphore;
-static int told, waiting, woken;
+static int signalled, waiting, woken;
 
 static struct timespec now(void)
 {
@@ -35,7 +35,7 @@ static int before(struct timespec one, struct timespec other)
     return one.tv_sec < other.tv_sec || (one.tv_sec == other.tv_sec && one.tv_nsec < other.tv_nsec);
 }
 
-static void tell(const char *what, int yes)
+static void report(const char *what, int yes)
 {
     printf("%s: %s\n", what, yes ? "yes" : "no");
 }
@@ -44,7 +44,7 @@ static void *later(void *argument)
 {
     usleep(200000);
     pthread_mutex_lock(&mutex);
-    told = 1;
+    signalled = 1;
     pthread_cond_signal(&condition);
     pthread_mutex_unlock(&mutex);
     usleep(200000);
@@ -57,7 +57,7 @@ static void *waits(void *argument)
     pthread_mutex_lock(&mutex);
     struct timespec end = after(now(), 8000);
     waiting++;
-    while (!told && pthread_cond_timedwait(&condition, &mutex, &end) == 0)
+    while (!signalled && pthread_cond_timedwait(&condition, &mutex, &end) == 0)
         woken++;
     pthread_mutex_unlock(&mutex);
     return argument;
@@ -67,7 +67,7 @@ static void *waits_for_ever(void *argument)
 {
     pthread_mutex_lock(&mutex);
     waiting++;
-    while (!told)
+    while (!signalled)
         pthread_cond_wait(&condition, &mutex);
     woken++;
     pthread_mutex_unlock(&mutex);
@@ -87,35 +87,36 @@ static void ticks(void)
     struct timespec begin = now(), length = { 0, 30000000 }, end;
     nanosleep(&length, NULL);
     end = now();
-    tell("a sleep takes its time", !before(end, after(begin, 30)));
+    report("a sleep takes its time", !before(end, after(begin, 30)));
     begin = after(now(), 50);
-    tell("a sleep until then", clock_nanosleep(CLOCK_REALTIME, TIMER_ABSTIME, &begin, NULL) == 0 && !before(now(), begin));
+    report("a sleep until then",
+           clock_nanosleep(CLOCK_REALTIME, TIMER_ABSTIME, &begin, NULL) == 0 && !before(now(), begin));
     length.tv_nsec = 1000000000;
-    tell("no time to sleep", nanosleep(&length, NULL) == -1 && errno == EINVAL);
+    report("no time to sleep", nanosleep(&length, NULL) == -1 && errno == EINVAL);
     struct timeval one, other;
     gettimeofday(&one, NULL);
     usleep(2000);
     gettimeofday(&other, NULL);
-    tell("gettimeofday goes on", other.tv_sec > one.tv_sec || other.tv_usec > one.tv_usec);
+    report("gettimeofday goes on", other.tv_sec > one.tv_sec || other.tv_usec > one.tv_usec);
     time_t seconds = time(NULL);
     sleep(1);
-    tell("time goes on", time(&seconds) == seconds && seconds > one.tv_sec);
-    tell("clock doesn't go back", clock() <= clock());
+    report("time goes on", time(&seconds) == seconds && seconds > one.tv_sec);
+    report("clock doesn't go back", clock() <= clock());
 }
 
 static void waits_alone(void)
 {
     struct timespec end = after(now(), 40), none = { 0, -1 };
     pthread_mutex_lock(&mutex);
-    tell("nobody signals", pthread_cond_timedwait(&condition, &mutex, &end) == ETIMEDOUT && !before(now(), end));
-    tell("nobody signals, and it is over", pthread_cond_timedwait(&condition, &mutex, &end) == ETIMEDOUT);
-    tell("no time to wait for", pthread_cond_timedwait(&condition, &mutex, &none) == EINVAL);
-    tell("the mutex is held", pthread_mutex_unlock(&mutex) == 0);
+    report("nobody signals", pthread_cond_timedwait(&condition, &mutex, &end) == ETIMEDOUT && !before(now(), end));
+    report("nobody signals, and it is over", pthread_cond_timedwait(&condition, &mutex, &end) == ETIMEDOUT);
+    report("no time to wait for", pthread_cond_timedwait(&condition, &mutex, &none) == EINVAL);
+    report("the mutex is held", pthread_mutex_unlock(&mutex) == 0);
     end = after(now(), 40);
-    tell("nobody posts", sem_timedwait(&semaphore, &end) == -1 && errno == ETIMEDOUT && !before(now(), end));
-    tell("no time", sem_timedwait(&semaphore, &none) == -1 && errno == EINVAL);
+    report("nobody posts", sem_timedwait(&semaphore, &end) == -1 && errno == ETIMEDOUT && !before(now(), end));
+    report("no time", sem_timedwait(&semaphore, &none) == -1 && errno == EINVAL);
     sem_post(&semaphore);
-    tell("somebody posted", sem_timedwait(&semaphore, &end) == 0);
+    report("somebody posted", sem_timedwait(&semaphore, &end) == 0);
 }
 
 static void waits_for_others(void)
@@ -124,20 +125,20 @@ static void waits_for_others(void)
     struct timespec end = after(now(), 5000);
     pthread_create(&thread, NULL, later, NULL);
     pthread_mutex_lock(&mutex);
-    int answer = 0;
-    while (!told && answer == 0)
-        answer = pthread_cond_timedwait(&condition, &mutex, &end);
+    int result = 0;
+    while (!signalled && result == 0)
+        result = pthread_cond_timedwait(&condition, &mutex, &end);
     pthread_mutex_unlock(&mutex);
-    tell("somebody signals", answer == 0 && told);
-    tell("somebody posts", sem_timedwait(&semaphore, &end) == 0);
+    report("somebody signals", result == 0 && signalled);
+    report("somebody posts", sem_timedwait(&semaphore, &end) == 0);
     pthread_join(thread, NULL);
-    tell("it isn't over", before(now(), end));
+    report("it isn't over", before(now(), end));
     pthread_create(&thread, NULL, keeps, NULL);
     usleep(100000);
     end = after(now(), 50);
-    tell("a mutex that another has", pthread_mutex_timedlock(&held, &end) == ETIMEDOUT);
+    report("a mutex that another has", pthread_mutex_timedlock(&held, &end) == ETIMEDOUT);
     end = after(now(), 5000);
-    tell("until it is free", pthread_mutex_timedlock(&held, &end) == 0);
+    report("until it is free", pthread_mutex_timedlock(&held, &end) == 0);
     pthread_mutex_unlock(&held);
     pthread_join(thread, NULL);
 }
@@ -145,7 +146,7 @@ static void waits_for_others(void)
 static void wakes_all(void)
 {
     pthread_t threads[4];
-    told = woken = 0;
+    signalled = woken = 0;
     for (int k = 0; k < 4; k++)
         pthread_create(&threads[k], NULL, k < 2 ? waits : waits_for_ever, NULL);
     for (int there = 0; there < 4;) {
@@ -155,12 +156,12 @@ static void wakes_all(void)
         pthread_mutex_unlock(&mutex);
     }
     pthread_mutex_lock(&mutex);
-    told = 1;
+    signalled = 1;
     pthread_cond_broadcast(&condition);
     pthread_mutex_unlock(&mutex);
     for (int k = 0; k < 4; k++)
         pthread_join(threads[k], NULL);
-    tell("a broadcast wakes all", woken == 4);
+    report("a broadcast wakes all", woken == 4);
 }
 
 int main(void)

@@ -13,18 +13,18 @@ static pthread_rwlock_t lock = PTHREAD_RWLOCK_INITIALIZER, counted;
 static sem_t go, done;
 static int counter, halves[2];
 
-static const char *name(int answer)
+static const char *name(int result)
 {
-    return answer == 0 ? "0" : answer == EBUSY ? "EBUSY" : answer == EDEADLK ? "EDEADLK" : answer == EINVAL ? "EINVAL"
-           : answer == ETIMEDOUT ? "ETIMEDOUT" : "another";
+    return result == 0 ? "0" : result == EBUSY ? "EBUSY" : result == EDEADLK ? "EDEADLK" : result == EINVAL ? "EINVAL"
+           : result == ETIMEDOUT ? "ETIMEDOUT" : "another";
 }
 
-static void tell(const char *what, int answer)
+static void report(const char *what, int result)
 {
-    printf("%s: %s\n", what, name(answer));
+    printf("%s: %s\n", what, name(result));
 }
 
-static struct timespec soon(void)
+static struct timespec short_deadline(void)
 {
     struct timespec time;
     clock_gettime(CLOCK_REALTIME, &time);
@@ -40,26 +40,26 @@ static void *other(void *unused)
 {
     struct timespec none = { 0, 1000000000 }, end;
     sem_wait(&go);
-    tell("another reads: read", pthread_rwlock_tryrdlock(&lock));
-    tell("give up", pthread_rwlock_unlock(&lock));
-    tell("write", pthread_rwlock_trywrlock(&lock));
+    report("another reads: read", pthread_rwlock_tryrdlock(&lock));
+    report("give up", pthread_rwlock_unlock(&lock));
+    report("write", pthread_rwlock_trywrlock(&lock));
     sem_post(&done);
     sem_wait(&go);
-    tell("another writes: read", pthread_rwlock_tryrdlock(&lock));
-    tell("write", pthread_rwlock_trywrlock(&lock));
-    end = soon();
-    tell("read up to a time", pthread_rwlock_timedrdlock(&lock, &end));
-    end = soon();
-    tell("read by a clock", pthread_rwlock_clockrdlock(&lock, CLOCK_REALTIME, &end));
-    tell("no time", pthread_rwlock_timedrdlock(&lock, &none));
+    report("another writes: read", pthread_rwlock_tryrdlock(&lock));
+    report("write", pthread_rwlock_trywrlock(&lock));
+    end = short_deadline();
+    report("read up to a time", pthread_rwlock_timedrdlock(&lock, &end));
+    end = short_deadline();
+    report("read by a clock", pthread_rwlock_clockrdlock(&lock, CLOCK_REALTIME, &end));
+    report("no time", pthread_rwlock_timedrdlock(&lock, &none));
     sem_post(&done);
     sem_wait(&go);
-    tell("nobody holds it: write", pthread_rwlock_trywrlock(&lock));
+    report("nobody holds it: write", pthread_rwlock_trywrlock(&lock));
     sem_post(&done);
     return unused;
 }
 
-static void hand_over(void)
+static void pass_lock(void)
 {
     sem_post(&go);
     sem_wait(&done);
@@ -93,25 +93,25 @@ int main(void)
     sem_init(&go, 0, 0);
     sem_init(&done, 0, 0);
     pthread_create(&threads[0], NULL, other, NULL);
-    tell("read", pthread_rwlock_tryrdlock(&lock));
-    tell("read again", pthread_rwlock_tryrdlock(&lock));
-    tell("and again", pthread_rwlock_rdlock(&lock));
-    tell("write", pthread_rwlock_trywrlock(&lock));
-    hand_over();
+    report("read", pthread_rwlock_tryrdlock(&lock));
+    report("read again", pthread_rwlock_tryrdlock(&lock));
+    report("and again", pthread_rwlock_rdlock(&lock));
+    report("write", pthread_rwlock_trywrlock(&lock));
+    pass_lock();
     for (int k = 0; k < 3; k++)
-        tell("give up", pthread_rwlock_unlock(&lock));
-    tell("write", pthread_rwlock_trywrlock(&lock));
-    tell("read what is written", pthread_rwlock_tryrdlock(&lock));
-    tell("read it all the same", pthread_rwlock_rdlock(&lock));
-    end = soon();
-    tell("read it up to a time", pthread_rwlock_timedrdlock(&lock, &end));
-    tell("write it", pthread_rwlock_wrlock(&lock));
-    hand_over();
-    tell("give up", pthread_rwlock_unlock(&lock));
-    end = soon();
-    tell("read up to a time", pthread_rwlock_timedrdlock(&lock, &end));
-    tell("give up", pthread_rwlock_unlock(&lock));
-    hand_over();
+        report("give up", pthread_rwlock_unlock(&lock));
+    report("write", pthread_rwlock_trywrlock(&lock));
+    report("read what is written", pthread_rwlock_tryrdlock(&lock));
+    report("read it all the same", pthread_rwlock_rdlock(&lock));
+    end = short_deadline();
+    report("read it up to a time", pthread_rwlock_timedrdlock(&lock, &end));
+    report("write it", pthread_rwlock_wrlock(&lock));
+    pass_lock();
+    report("give up", pthread_rwlock_unlock(&lock));
+    end = short_deadline();
+    report("read up to a time", pthread_rwlock_timedrdlock(&lock, &end));
+    report("give up", pthread_rwlock_unlock(&lock));
+    pass_lock();
     pthread_join(threads[0], NULL);
     pthread_rwlock_init(&counted, NULL);
     for (int k = 0; k < THREADS; k++)
@@ -119,6 +119,6 @@ int main(void)
     for (int k = 0; k < THREADS; k++)
         pthread_join(threads[k], NULL);
     printf("counted %d\n", counter);
-    tell("destroy", pthread_rwlock_destroy(&counted));
+    report("destroy", pthread_rwlock_destroy(&counted));
     return 0;
 }

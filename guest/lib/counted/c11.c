@@ -3,9 +3,9 @@
 #include <threads.h>
 #include "counted.h"
 
-static int answered(int answer)
+static int thrd_result(int result)
 {
-    return answer == 0 ? thrd_success : answer == ETIMEDOUT ? thrd_timedout : thrd_error;
+    return result == 0 ? thrd_success : result == ETIMEDOUT ? thrd_timedout : thrd_error;
 }
 
 /* C11, 7.26.5.7: -1 if a signal has ended it, and another negative number if it failed. */
@@ -18,10 +18,10 @@ IT_REPLACEABLE int thrd_sleep(const struct timespec *length, struct timespec *re
 
 IT_REPLACEABLE int mtx_timedlock(mtx_t *restrict mutex, const struct timespec *restrict time)
 {
-    return answered(pthread_mutex_timedlock(mutex, time));
+    return thrd_result(pthread_mutex_timedlock(mutex, time));
 }
 
 IT_REPLACEABLE int cnd_timedwait(cnd_t *restrict condition, mtx_t *restrict mutex, const struct timespec *restrict time)
 {
-    return answered(pthread_cond_timedwait(condition, mutex, time));
+    return thrd_result(pthread_cond_timedwait(condition, mutex, time));
 }

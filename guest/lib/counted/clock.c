@@ -20,37 +20,37 @@
 #include "counted.h"
 
 enum {
-    BEGIN = 946684800, /* 2000-01-01, in seconds from 1970 on */
-    ASKED = 1000000,   /* nanoseconds that pass when the time is read */
-    YIELD = 10000000,  /* and in a yield */
-    TICKS = 100,       /* of `times`, in a second, as sysconf says */
-    MOST = 1000,       /* yields of one wait, without those that don't count */
-    LAST_CLOCK = 7     /* the last number of a clock in the C library's time.h */
+    EPOCH = 946684800,   /* 2000-01-01, in seconds since 1970 */
+    READ_NS = 1000000,   /* nanoseconds that pass when the time is read */
+    YIELD_NS = 10000000, /* and in a yield */
+    TICKS = 100,         /* of `times`, in a second, as sysconf says */
+    MAX_YIELDS = 1000,   /* of one wait, without those that don't count */
+    LAST_CLOCK = 7       /* the last number of a clock in the C library's time.h */
 };
 
-/* Times count from BEGIN. If `until` is 0, the thread doesn't wait. */
+/* Times count from EPOCH. If `until` is 0, the thread doesn't wait. */
 static struct IT_PAGE_ALIGNED {
     struct {
         struct timespec reached, until;
         unsigned calls; /* made when the thread last began a wait or created a thread */
-    } of[IT_THREADS];
-} times_of;
-static _Thread_local struct timespec own;
+    } entry[IT_THREADS];
+} shared_times;
+static _Thread_local struct timespec own_time;
 
 /* Advances the thread's time and returns it. */
-static struct timespec asked(void)
+static struct timespec advance_time(void)
 {
     for (unsigned thread = 0; thread < IT_THREADS; thread++)
-        if (it_is_before(own, times_of.of[thread].reached))
-            own = times_of.of[thread].reached;
-    own = it_sum(own, (struct timespec) { 0, ASKED });
-    return own;
+        if (it_is_before(own_time, shared_times.entry[thread].reached))
+            own_time = shared_times.entry[thread].reached;
+    own_time = it_sum(own_time, (struct timespec) { 0, READ_NS });
+    return own_time;
 }
 
 struct timespec it_now(void)
 {
-    struct timespec now = asked();
-    now.tv_sec += BEGIN;
+    struct timespec now = advance_time();
+    now.tv_sec += EPOCH;
     return now;
 }
 
@@ -60,11 +60,11 @@ static unsigned yields_for(struct timespec length)
     unsigned yields = 0;
     if (length.tv_sec < 0)
         return 0;
-    if (length.tv_sec >= MOST / (IT_SECOND / YIELD))
-        return MOST;
+    if (length.tv_sec >= MAX_YIELDS / (IT_NS_PER_SECOND / YIELD_NS))
+        return MAX_YIELDS;
     for (; length.tv_sec > 0; length.tv_sec--)
-        yields += IT_SECOND / YIELD;
-    for (; length.tv_nsec > 0; length.tv_nsec -= YIELD)
+        yields += IT_NS_PER_SECOND / YIELD_NS;
+    for (; length.tv_nsec > 0; length.tv_nsec -= YIELD_NS)
         yields++;
     return yields;
 }
@@ -74,58 +74,58 @@ int __real_pthread_create(pthread_t *restrict thread, const pthread_attr_t *rest
 int __wrap_pthread_create(pthread_t *restrict thread, const pthread_attr_t *restrict attributes,
                           void *(*function)(void *), void *restrict argument)
 {
-    times_of.of[it_self.number].calls = it_calls;
+    shared_times.entry[it_self.number].calls = it_calls;
     return __real_pthread_create(thread, attributes, function, argument);
 }
 
-struct it_wait it_begin_wait(struct timespec then)
+struct it_wait it_begin_wait(struct timespec deadline)
 {
-    then.tv_sec -= BEGIN;
-    struct it_wait wait = { then, yields_for(it_difference(then, asked())), MOST };
-    times_of.of[it_self.number].calls = it_calls;
+    deadline.tv_sec -= EPOCH;
+    struct it_wait wait = { deadline, yields_for(it_difference(deadline, advance_time())), MAX_YIELDS };
+    shared_times.entry[it_self.number].calls = it_calls;
     if (wait.yields)
-        times_of.of[it_self.number].until = then;
+        shared_times.entry[it_self.number].until = deadline;
     return wait;
 }
 
 /* Whether a yield counts. */
-static int counts(struct it_wait *wait)
+static int yield_counts(struct it_wait *wait)
 {
     int fewer = 0;
     for (unsigned thread = 0; thread < IT_THREADS; thread++) {
-        struct timespec other = times_of.of[thread].until;
+        struct timespec other = shared_times.entry[thread].until;
         if ((other.tv_sec || other.tv_nsec) && it_is_before(other, wait->until))
             return 0;
-        fewer |= it_calls < times_of.of[thread].calls;
+        fewer |= it_calls < shared_times.entry[thread].calls;
     }
-    return !fewer || !wait->others || !wait->others--;
+    return !fewer || !wait->uncounted || !wait->uncounted--;
 }
 
-int it_wait_on(struct it_wait *wait)
+int it_wait_yield(struct it_wait *wait)
 {
     if (wait->yields == 0)
         return 0;
     it_call(IT_CALL_YIELD, 0, 0);
-    if (counts(wait)) {
+    if (yield_counts(wait)) {
         wait->yields--;
-        own = it_sum(own, (struct timespec) { 0, YIELD });
+        own_time = it_sum(own_time, (struct timespec) { 0, YIELD_NS });
     }
     return 1;
 }
 
-void it_end_wait(const struct it_wait *wait, int is_over)
+void it_end_wait(const struct it_wait *wait, int timed_out)
 {
-    if (is_over && it_is_before(own, wait->until))
-        own = wait->until;
-    if (!is_over && it_is_before(wait->until, own))
-        own = wait->until;
-    times_of.of[it_self.number].reached = own;
-    times_of.of[it_self.number].until = (struct timespec) { 0, 0 };
+    if (timed_out && it_is_before(own_time, wait->until))
+        own_time = wait->until;
+    if (!timed_out && it_is_before(wait->until, own_time))
+        own_time = wait->until;
+    shared_times.entry[it_self.number].reached = own_time;
+    shared_times.entry[it_self.number].until = (struct timespec) { 0, 0 };
 }
 
 /* ---------------------------------------------------------------------------------------------- the time ---- */
 
-static int failed(int error)
+static int fail_with(int error)
 {
     errno = error;
     return -1;
@@ -136,7 +136,7 @@ static int is_clock(clockid_t clock)
     return clock <= LAST_CLOCK;
 }
 
-static int is_processors(clockid_t clock)
+static int is_cpu_clock(clockid_t clock)
 {
     return clock == CLOCK_PROCESS_CPUTIME_ID || clock == CLOCK_THREAD_CPUTIME_ID;
 }
@@ -144,23 +144,23 @@ static int is_processors(clockid_t clock)
 IT_REPLACEABLE int clock_gettime(clockid_t clock, struct timespec *time)
 {
     if (!is_clock(clock))
-        return failed(EINVAL);
-    *time = is_processors(clock) ? asked() : it_now();
+        return fail_with(EINVAL);
+    *time = is_cpu_clock(clock) ? advance_time() : it_now();
     return 0;
 }
 
 IT_REPLACEABLE int clock_getres(clockid_t clock, struct timespec *step)
 {
     if (!is_clock(clock))
-        return failed(EINVAL);
+        return fail_with(EINVAL);
     if (step)
-        *step = (struct timespec) { 0, ASKED };
+        *step = (struct timespec) { 0, READ_NS };
     return 0;
 }
 
 IT_REPLACEABLE int clock_settime(clockid_t clock, const struct timespec *time)
 {
-    return failed(clock == CLOCK_REALTIME && it_is_time(time) ? EPERM : EINVAL);
+    return fail_with(clock == CLOCK_REALTIME && it_is_valid_time(time) ? EPERM : EINVAL);
 }
 
 /* There is one process, and it has one clock. */
@@ -202,21 +202,21 @@ time_t time(time_t *to)
 
 clock_t clock(void)
 {
-    struct timespec time = asked();
-    return (clock_t)(time.tv_sec * CLOCKS_PER_SEC + time.tv_nsec / (IT_SECOND / CLOCKS_PER_SEC));
+    struct timespec time = advance_time();
+    return (clock_t)(time.tv_sec * CLOCKS_PER_SEC + time.tv_nsec / (IT_NS_PER_SECOND / CLOCKS_PER_SEC));
 }
 
 IT_REPLACEABLE clock_t times(struct tms *times)
 {
-    struct timespec time = asked();
-    clock_t ticks = (clock_t)(time.tv_sec * TICKS + time.tv_nsec / (IT_SECOND / TICKS));
+    struct timespec time = advance_time();
+    clock_t ticks = (clock_t)(time.tv_sec * TICKS + time.tv_nsec / (IT_NS_PER_SECOND / TICKS));
     *times = (struct tms) { ticks, 0, 0, 0 };
     return ticks;
 }
 
 IT_REPLACEABLE int getrusage(int who, struct rusage *usage)
 {
-    struct timespec time = asked();
+    struct timespec time = advance_time();
     (void)who;
     *usage = (struct rusage) { { time.tv_sec, time.tv_nsec / 1000 }, { 0, 0 } };
     return 0;
@@ -225,25 +225,25 @@ IT_REPLACEABLE int getrusage(int who, struct rusage *usage)
 /* ---------------------------------------------------------------------------------------------- sleeps ---- */
 
 /* A sleep yields at least once. Returns whether a signal handler ended it. */
-static int sleep_until(struct timespec then)
+static int sleep_until(struct timespec deadline)
 {
-    struct it_wait wait = it_begin_wait(then);
+    struct it_wait wait = it_begin_wait(deadline);
     it_ordered_call(IT_CALL_YIELD, 0, 0);
-    int ended = it_take_signals();
-    while (!ended && !it_is_cancelled() && it_wait_on(&wait))
-        ended = it_take_signals();
-    it_end_wait(&wait, !ended);
+    int interrupted = it_take_signals();
+    while (!interrupted && !it_is_cancelled() && it_wait_yield(&wait))
+        interrupted = it_take_signals();
+    it_end_wait(&wait, !interrupted);
     it_end_if_cancelled();
-    return ended;
+    return interrupted;
 }
 
 /* The same for a length of time; stores the rest of it if a handler ended the sleep. */
 static int sleep_for(struct timespec length, struct timespec *rest)
 {
-    struct timespec then = it_sum(it_now(), length);
-    if (!sleep_until(then))
+    struct timespec deadline = it_sum(it_now(), length);
+    if (!sleep_until(deadline))
         return 0;
-    *rest = it_difference(then, it_now());
+    *rest = it_difference(deadline, it_now());
     return 1;
 }
 
@@ -259,26 +259,26 @@ IT_REPLACEABLE int usleep(useconds_t microseconds)
     for (; microseconds >= 1000000; microseconds -= 1000000)
         length.tv_sec++;
     length.tv_nsec = (long)microseconds * 1000;
-    return sleep_for(length, &rest) ? failed(EINTR) : 0;
+    return sleep_for(length, &rest) ? fail_with(EINTR) : 0;
 }
 
 /* POSIX.1-2017 clock_nanosleep: returns the error. */
 IT_REPLACEABLE int clock_nanosleep(clockid_t clock, int flags, const struct timespec *time, struct timespec *rest)
 {
-    struct timespec left;
-    if (!it_is_time(time) || time->tv_sec < 0 || !is_clock(clock) || clock == CLOCK_THREAD_CPUTIME_ID)
+    struct timespec remaining;
+    if (!it_is_valid_time(time) || time->tv_sec < 0 || !is_clock(clock) || clock == CLOCK_THREAD_CPUTIME_ID)
         return EINVAL;
     if (flags & TIMER_ABSTIME)
         return sleep_until(*time) ? EINTR : 0;
-    if (!sleep_for(*time, &left))
+    if (!sleep_for(*time, &remaining))
         return 0;
     if (rest)
-        *rest = left;
+        *rest = remaining;
     return EINTR;
 }
 
 IT_REPLACEABLE int nanosleep(const struct timespec *length, struct timespec *rest)
 {
     int error = clock_nanosleep(CLOCK_REALTIME, 0, length, rest);
-    return error == 0 ? 0 : failed(error);
+    return error == 0 ? 0 : fail_with(error);
 }

@@ -6,7 +6,7 @@
 #include <time.h>
 #include "../library.h"
 
-enum { IT_SECOND = 1000000000 };
+enum { IT_NS_PER_SECOND = 1000000000 };
 
 /* Advances the thread's time and returns it, counted from 1970. */
 struct timespec it_now(void);
@@ -15,19 +15,19 @@ struct timespec it_now(void);
    because another thread has made more calls. */
 struct it_wait {
     struct timespec until;
-    unsigned yields, others;
+    unsigned yields, uncounted;
 };
 
 struct it_wait it_begin_wait(struct timespec then);
 
 /* Yields and returns 1, or returns 0 at once if the time has passed. */
-int it_wait_on(struct it_wait *wait);
+int it_wait_yield(struct it_wait *wait);
 
-void it_end_wait(const struct it_wait *wait, int is_over);
+void it_end_wait(const struct it_wait *wait, int timed_out);
 
-static inline int it_is_time(const struct timespec *time)
+static inline int it_is_valid_time(const struct timespec *time)
 {
-    return time->tv_nsec >= 0 && time->tv_nsec < IT_SECOND;
+    return time->tv_nsec >= 0 && time->tv_nsec < IT_NS_PER_SECOND;
 }
 
 static inline int it_is_before(struct timespec one, struct timespec other)
@@ -38,8 +38,8 @@ static inline int it_is_before(struct timespec one, struct timespec other)
 static inline struct timespec it_sum(struct timespec one, struct timespec other)
 {
     struct timespec sum = { one.tv_sec + other.tv_sec, one.tv_nsec + other.tv_nsec };
-    if (sum.tv_nsec >= IT_SECOND) {
-        sum.tv_nsec -= IT_SECOND;
+    if (sum.tv_nsec >= IT_NS_PER_SECOND) {
+        sum.tv_nsec -= IT_NS_PER_SECOND;
         sum.tv_sec++;
     }
     return sum;
@@ -50,7 +50,7 @@ static inline struct timespec it_difference(struct timespec later, struct timesp
 {
     struct timespec rest = { later.tv_sec - earlier.tv_sec, later.tv_nsec - earlier.tv_nsec };
     if (rest.tv_nsec < 0) {
-        rest.tv_nsec += IT_SECOND;
+        rest.tv_nsec += IT_NS_PER_SECOND;
         rest.tv_sec--;
     }
     return rest;
@@ -60,16 +60,16 @@ static inline struct timespec it_difference(struct timespec later, struct timesp
 #define IT_TIMED_LOCK(replaceable, function, type, try)                                                                \
     replaceable int function(type *restrict lock, const struct timespec *restrict time)                                \
     {                                                                                                                  \
-        int answer = try(lock);                                                                                        \
-        if (answer != EBUSY)                                                                                           \
-            return answer;                                                                                             \
-        if (!it_is_time(time))                                                                                         \
+        int result = try(lock);                                                                                        \
+        if (result != EBUSY)                                                                                           \
+            return result;                                                                                             \
+        if (!it_is_valid_time(time))                                                                                   \
             return EINVAL;                                                                                             \
         struct it_wait wait = it_begin_wait(*time);                                                                    \
-        while (answer == EBUSY && it_wait_on(&wait))                                                                   \
-            answer = try(lock);                                                                                        \
-        it_end_wait(&wait, answer == EBUSY);                                                                           \
-        return answer == EBUSY ? ETIMEDOUT : answer;                                                                   \
+        while (result == EBUSY && it_wait_yield(&wait))                                                                \
+            result = try(lock);                                                                                        \
+        it_end_wait(&wait, result == EBUSY);                                                                           \
+        return result == EBUSY ? ETIMEDOUT : result;                                                                   \
     }
 
 #endif

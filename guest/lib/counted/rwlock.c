@@ -13,8 +13,8 @@ IT_REPLACEABLE int pthread_rwlock_clockwrlock(pthread_rwlock_t *restrict lock, c
 }
 
 #ifdef IT_READ_TRIES
-int it_try_to_read(pthread_rwlock_t *lock);
-IT_TIMED_LOCK(IT_REPLACEABLE, pthread_rwlock_timedrdlock, pthread_rwlock_t, it_try_to_read)
+int it_tryrdlock(pthread_rwlock_t *lock);
+IT_TIMED_LOCK(IT_REPLACEABLE, pthread_rwlock_timedrdlock, pthread_rwlock_t, it_tryrdlock)
 
 IT_REPLACEABLE int pthread_rwlock_clockrdlock(pthread_rwlock_t *restrict lock, clockid_t clock,
                                               const struct timespec *restrict time)

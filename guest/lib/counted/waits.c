@@ -10,31 +10,31 @@
 static struct IT_PAGE_ALIGNED {
     unsigned count;
     struct waiter { pthread_cond_t *condition; int *woken; } waiter[IT_THREADS]; /* in order of arrival */
-} waiting;
+} wait_list;
 static _Thread_local int woken;
 
-static void leave(unsigned place)
+static void remove_waiter(unsigned index)
 {
-    for (waiting.count--; place < waiting.count; place++)
-        waiting.waiter[place] = waiting.waiter[place + 1];
+    for (wait_list.count--; index < wait_list.count; index++)
+        wait_list.waiter[index] = wait_list.waiter[index + 1];
 }
 
 /* Wakes at most this many threads of the list. Returns whether it woke any. */
-static int wake(const pthread_cond_t *condition, unsigned most)
+static int wake(const pthread_cond_t *condition, unsigned max)
 {
     unsigned found = 0;
-    if (it_self.settle)
-        it_settle();
-    if (waiting.count == 0)
+    if (it_self.io_pending)
+        it_finish_io();
+    if (wait_list.count == 0)
         return 0;
     it_lock_library();
-    for (unsigned place = 0; place < waiting.count && found < most;)
-        if (waiting.waiter[place].condition == condition) {
-            *waiting.waiter[place].woken = 1;
-            leave(place);
+    for (unsigned index = 0; index < wait_list.count && found < max;)
+        if (wait_list.waiter[index].condition == condition) {
+            *wait_list.waiter[index].woken = 1;
+            remove_waiter(index);
             found++;
         } else {
-            place++;
+            index++;
         }
     it_unlock_library();
     return found != 0;
@@ -53,54 +53,54 @@ int __wrap_pthread_cond_broadcast(pthread_cond_t *condition)
     return __real_pthread_cond_broadcast(condition);
 }
 
-static void enter(pthread_cond_t *condition)
+static void begin_list_wait(pthread_cond_t *condition)
 {
     it_lock_library();
     woken = 0;
-    waiting.waiter[waiting.count++] = (struct waiter) { condition, &woken };
+    wait_list.waiter[wait_list.count++] = (struct waiter) { condition, &woken };
     it_unlock_library();
 }
 
 /* Takes the thread off the list. Returns 0 if another thread has woken it, else ETIMEDOUT. */
-static int came_out(void)
+static int end_list_wait(void)
 {
-    int answer = 0;
+    int result = 0;
     it_lock_library();
     if (!woken) {
-        unsigned place = 0;
-        while (waiting.waiter[place].woken != &woken)
-            place++;
-        leave(place);
-        answer = ETIMEDOUT;
+        unsigned index = 0;
+        while (wait_list.waiter[index].woken != &woken)
+            index++;
+        remove_waiter(index);
+        result = ETIMEDOUT;
     }
     it_unlock_library();
-    return answer;
+    return result;
 }
 
 int pthread_cond_timedwait(pthread_cond_t *restrict condition, pthread_mutex_t *restrict mutex,
                            const struct timespec *restrict time)
 {
-    if (!it_is_time(time))
+    if (!it_is_valid_time(time))
         return EINVAL;
-    enter(condition);
-    int answer = pthread_mutex_unlock(mutex);
-    if (answer != 0) {
-        came_out();
-        return answer;
+    begin_list_wait(condition);
+    int result = pthread_mutex_unlock(mutex);
+    if (result != 0) {
+        end_list_wait();
+        return result;
     }
     struct it_wait wait = it_begin_wait(*time);
-    while (!woken && !it_is_cancelled() && it_wait_on(&wait))
+    while (!woken && !it_is_cancelled() && it_wait_yield(&wait))
         ;
-    answer = came_out();
-    it_end_wait(&wait, answer == ETIMEDOUT);
+    result = end_list_wait();
+    it_end_wait(&wait, result == ETIMEDOUT);
     pthread_mutex_lock(mutex);
     it_end_if_cancelled();
-    return answer;
+    return result;
 }
 
 IT_TIMED_LOCK(, pthread_mutex_timedlock, pthread_mutex_t, pthread_mutex_trylock)
 
-static int failed(int error)
+static int fail_with(int error)
 {
     errno = error;
     return -1;
@@ -108,18 +108,18 @@ static int failed(int error)
 
 int sem_timedwait(sem_t *restrict semaphore, const struct timespec *restrict time)
 {
-    int answer = sem_trywait(semaphore);
-    if (answer == 0)
+    int result = sem_trywait(semaphore);
+    if (result == 0)
         return 0;
-    if (!it_is_time(time))
-        return failed(EINVAL);
+    if (!it_is_valid_time(time))
+        return fail_with(EINVAL);
     struct it_wait wait = it_begin_wait(*time);
-    while (answer != 0 && !it_is_cancelled() && it_wait_on(&wait))
-        answer = sem_trywait(semaphore);
-    it_end_wait(&wait, answer != 0);
-    if (answer != 0)
+    while (result != 0 && !it_is_cancelled() && it_wait_yield(&wait))
+        result = sem_trywait(semaphore);
+    it_end_wait(&wait, result != 0);
+    if (result != 0)
         it_end_if_cancelled();
-    return answer == 0 ? 0 : failed(ETIMEDOUT);
+    return result == 0 ? 0 : fail_with(ETIMEDOUT);
 }
 
 /* All clocks have the same time. */

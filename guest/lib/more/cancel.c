@@ -11,20 +11,20 @@
 #include "../library.h"
 
 static struct IT_PAGE_ALIGNED {
-    unsigned char asked[IT_THREADS], made[IT_THREADS], ended[IT_THREADS];
+    unsigned char requested[IT_THREADS], created[IT_THREADS], ended[IT_THREADS];
     unsigned count;
     struct waiter {
         const void *object;
         unsigned thread, condition;
         int *woken;
     } waiter[IT_THREADS]; /* in order of arrival */
-} all;
+} waits;
 
 static _Thread_local int state, type, woken;
 
 int it_is_cancelled(void)
 {
-    return all.asked[it_self.number] && state == PTHREAD_CANCEL_ENABLE;
+    return waits.requested[it_self.number] && state == PTHREAD_CANCEL_ENABLE;
 }
 
 void it_end_if_cancelled(void)
@@ -33,7 +33,7 @@ void it_end_if_cancelled(void)
         pthread_exit(PTHREAD_CANCELED);
 }
 
-void it_end_if_at_once(void)
+void it_end_if_async_cancelled(void)
 {
     if (type == PTHREAD_CANCEL_ASYNCHRONOUS)
         it_end_if_cancelled();
@@ -57,56 +57,56 @@ static unsigned own_condition(void)
     return it_number_or_end(IT_CONDITION, &woken);
 }
 
-static void leave(unsigned place)
+static void remove_waiter(unsigned index)
 {
-    for (all.count--; place < all.count; place++)
-        all.waiter[place] = all.waiter[place + 1];
+    for (waits.count--; index < waits.count; index++)
+        waits.waiter[index] = waits.waiter[index + 1];
 }
 
 /* Waits at the object, with the library's mutex locked. Returns whether the thread was cancelled, and has to end. */
-static int wait_at(const void *object, unsigned condition)
+static int wait_on(const void *object, unsigned condition)
 {
     woken = 0;
-    all.waiter[all.count++] = (struct waiter) { object, it_self.number, condition, &woken };
+    waits.waiter[waits.count++] = (struct waiter) { object, it_self.number, condition, &woken };
     while (!woken && !it_is_cancelled())
         it_call(IT_CALL_COND_WAIT, condition, IT_OWN_MUTEX);
     if (woken)
         return 0;
-    unsigned place = 0;
-    while (all.waiter[place].woken != &woken)
-        place++;
-    leave(place);
+    unsigned index = 0;
+    while (waits.waiter[index].woken != &woken)
+        index++;
+    remove_waiter(index);
     return 1;
 }
 
-/* Wakes at most `most` threads, with the library's mutex locked. */
-static void wake(const void *object, unsigned most)
+/* Wakes at most `max` threads, with the library's mutex locked. */
+static void wake(const void *object, unsigned max)
 {
-    for (unsigned place = 0; place < all.count && most;)
-        if (all.waiter[place].object == object) {
-            unsigned condition = all.waiter[place].condition;
-            *all.waiter[place].woken = 1;
-            leave(place);
+    for (unsigned index = 0; index < waits.count && max;)
+        if (waits.waiter[index].object == object) {
+            unsigned condition = waits.waiter[index].condition;
+            *waits.waiter[index].woken = 1;
+            remove_waiter(index);
             it_call(IT_CALL_SIGNAL, condition, 0);
-            most--;
+            max--;
         } else {
-            place++;
+            index++;
         }
 }
 
-static int wake_all(const void *object, unsigned most)
+static int lock_and_wake(const void *object, unsigned max)
 {
     lock();
-    wake(object, most);
+    wake(object, max);
     unlock();
     return 0;
 }
 
 /* Unlocks the library's mutex. */
-static void end_wait(int ends)
+static void unlock_or_exit(int cancelled)
 {
     unlock();
-    if (ends)
+    if (cancelled)
         pthread_exit(PTHREAD_CANCELED);
 }
 
@@ -117,12 +117,12 @@ int pthread_cancel(pthread_t thread)
     if (thread >= IT_THREADS)
         return ESRCH;
     lock();
-    all.asked[thread] = 1;
-    for (unsigned place = 0; place < all.count; place++)
-        if (all.waiter[place].thread == thread)
-            it_call(IT_CALL_SIGNAL, all.waiter[place].condition, 0);
+    waits.requested[thread] = 1;
+    for (unsigned index = 0; index < waits.count; index++)
+        if (waits.waiter[index].thread == thread)
+            it_call(IT_CALL_SIGNAL, waits.waiter[index].condition, 0);
     unlock();
-    it_end_if_at_once();
+    it_end_if_async_cancelled();
     return 0;
 }
 
@@ -133,37 +133,37 @@ void pthread_testcancel(void)
     it_end_if_cancelled();
 }
 
-static int set(int *kept, int value, int *old)
+static int set_flag(int *current, int value, int *old)
 {
     if (value != 0 && value != 1)
         return EINVAL;
     if (old)
-        *old = *kept;
-    *kept = value;
-    it_end_if_at_once();
+        *old = *current;
+    *current = value;
+    it_end_if_async_cancelled();
     return 0;
 }
 
 int pthread_setcancelstate(int value, int *old)
 {
-    return set(&state, value, old);
+    return set_flag(&state, value, old);
 }
 
 int pthread_setcanceltype(int value, int *old)
 {
-    return set(&type, value, old);
+    return set_flag(&type, value, old);
 }
 
-void it_tell_made(unsigned thread)
+void it_record_create(unsigned thread)
 {
-    all.made[thread] = 1;
+    waits.created[thread] = 1;
 }
 
-void it_tell_end(void)
+void it_record_end(void)
 {
     lock();
-    all.ended[it_self.number] = 1;
-    wake(&all.ended[it_self.number], IT_THREADS);
+    waits.ended[it_self.number] = 1;
+    wake(&waits.ended[it_self.number], IT_THREADS);
     unlock();
 }
 
@@ -174,10 +174,10 @@ void it_wait_for_end(unsigned thread)
         return;
     unsigned condition = own_condition();
     lock();
-    int ends = it_is_cancelled();
-    while (!ends && (all.made[thread] || thread == 0) && !all.ended[thread])
-        ends = wait_at(&all.ended[thread], condition);
-    end_wait(ends);
+    int cancelled = it_is_cancelled();
+    while (!cancelled && (waits.created[thread] || thread == 0) && !waits.ended[thread])
+        cancelled = wait_on(&waits.ended[thread], condition);
+    unlock_or_exit(cancelled);
 }
 
 /* ---------------------------------------------------------------------------------------------- conditions ---- */
@@ -187,33 +187,33 @@ int pthread_cond_wait(pthread_cond_t *restrict condition, pthread_mutex_t *restr
     unsigned number = it_number_or_end(IT_MUTEX, mutex), own = own_condition();
     lock();
     if (it_is_cancelled())
-        end_wait(1);
+        unlock_or_exit(1);
     if (it_call(IT_CALL_UNLOCK, number, 0) != 0) {
         unlock();
         return EPERM;
     }
-    int ends = wait_at(condition, own);
+    int cancelled = wait_on(condition, own);
     unlock();
     it_call(IT_CALL_LOCK, number, 0);
-    if (ends)
+    if (cancelled)
         pthread_exit(PTHREAD_CANCELED);
     return 0;
 }
 
 int pthread_cond_signal(pthread_cond_t *condition)
 {
-    return wake_all(condition, 1);
+    return lock_and_wake(condition, 1);
 }
 
 int pthread_cond_broadcast(pthread_cond_t *condition)
 {
-    return wake_all(condition, IT_THREADS);
+    return lock_and_wake(condition, IT_THREADS);
 }
 
 /* ---------------------------------------------------------------------------------------------- semaphores ---- */
 
 /* Unlocks the library's mutex. */
-static int end(int error)
+static int unlock_result(int error)
 {
     unlock();
     if (error == 0)
@@ -228,53 +228,53 @@ int sem_init(sem_t *semaphore, int shared, unsigned value)
     lock();
     if (value <= SEM_VALUE_MAX)
         semaphore->unused = (int)value;
-    return end(value <= SEM_VALUE_MAX ? 0 : EINVAL);
+    return unlock_result(value <= SEM_VALUE_MAX ? 0 : EINVAL);
 }
 
 int sem_destroy(sem_t *semaphore)
 {
     int error = 0;
     lock();
-    for (unsigned place = 0; place < all.count; place++)
-        if (all.waiter[place].object == semaphore)
+    for (unsigned index = 0; index < waits.count; index++)
+        if (waits.waiter[index].object == semaphore)
             error = EBUSY;
-    return end(error);
+    return unlock_result(error);
 }
 
 int sem_wait(sem_t *semaphore)
 {
     unsigned condition = own_condition();
     lock();
-    int ends = it_is_cancelled();
-    while (!ends && semaphore->unused == 0)
-        ends = wait_at(semaphore, condition);
-    semaphore->unused -= !ends;
-    end_wait(ends);
+    int cancelled = it_is_cancelled();
+    while (!cancelled && semaphore->unused == 0)
+        cancelled = wait_on(semaphore, condition);
+    semaphore->unused -= !cancelled;
+    unlock_or_exit(cancelled);
     return 0;
 }
 
 int sem_trywait(sem_t *semaphore)
 {
     lock();
-    int some = semaphore->unused > 0;
-    semaphore->unused -= some;
-    return end(some ? 0 : EAGAIN);
+    int available = semaphore->unused > 0;
+    semaphore->unused -= available;
+    return unlock_result(available ? 0 : EAGAIN);
 }
 
 int sem_post(sem_t *semaphore)
 {
     lock();
     if (semaphore->unused == SEM_VALUE_MAX)
-        return end(EOVERFLOW);
+        return unlock_result(EOVERFLOW);
     semaphore->unused++;
     wake(semaphore, 1);
-    return end(0);
+    return unlock_result(0);
 }
 
 int sem_getvalue(sem_t *restrict semaphore, int *restrict value)
 {
     lock();
     *value = semaphore->unused;
-    return end(0);
+    return unlock_result(0);
 }
 #endif

@@ -31,24 +31,24 @@ void it_run_cleanups(void)
 #ifndef IT_CANCEL /* else guest/lib/more/cancel.c has these */
 static _Thread_local int cancel_state, cancel_type;
 
-static int set(int *kept, int value, int *old)
+static int set_flag(int *current, int value, int *old)
 {
     if (value != 0 && value != 1)
         return EINVAL;
     if (old)
-        *old = *kept;
-    *kept = value;
+        *old = *current;
+    *current = value;
     return 0;
 }
 
 IT_REPLACEABLE int pthread_setcancelstate(int state, int *old)
 {
-    return set(&cancel_state, state, old);
+    return set_flag(&cancel_state, state, old);
 }
 
 IT_REPLACEABLE int pthread_setcanceltype(int type, int *old)
 {
-    return set(&cancel_type, type, old);
+    return set_flag(&cancel_type, type, old);
 }
 
 IT_REPLACEABLE void pthread_testcancel(void)

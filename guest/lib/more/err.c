@@ -10,7 +10,7 @@
 /* main's words, after the environment */
 extern char *it_words[];
 
-static void say(const char *format, va_list arguments)
+static void print_message(const char *format, va_list arguments)
 {
     fprintf(stderr, "%s: ", it_words[1]);
     if (format)
@@ -20,14 +20,14 @@ static void say(const char *format, va_list arguments)
 IT_REPLACEABLE void vwarn(const char *format, va_list arguments)
 {
     int error = errno;
-    say(format, arguments);
+    print_message(format, arguments);
     fprintf(stderr, "%s%s\n", format ? ": " : "", strerror(error));
     errno = error;
 }
 
 IT_REPLACEABLE void vwarnx(const char *format, va_list arguments)
 {
-    say(format, arguments);
+    print_message(format, arguments);
     fputs("\n", stderr);
 }
 
@@ -63,7 +63,7 @@ BY_LIST(errx, verrx, (int code, const char *format, ...), code, format)
 unsigned error_message_count;
 int error_one_per_line;
 
-static void say_error(int code, int error, const char *format, va_list arguments)
+static void print_error(int code, int error, const char *format, va_list arguments)
 {
     vfprintf(stderr, format, arguments);
     error_message_count++;
@@ -79,7 +79,7 @@ IT_REPLACEABLE void error(int code, int number, const char *format, ...)
     va_list arguments;
     va_start(arguments, format);
     fprintf(stderr, "%s: ", it_words[1]);
-    say_error(code, number, format, arguments);
+    print_error(code, number, format, arguments);
     va_end(arguments);
 }
 
@@ -100,6 +100,6 @@ IT_REPLACEABLE void error_at_line(int code, int number, const char *file, unsign
     if (file)
         fprintf(stderr, "%s:%u:", file, line);
     fputs(" ", stderr);
-    say_error(code, number, format, arguments);
+    print_error(code, number, format, arguments);
     va_end(arguments);
 }

@@ -3,28 +3,28 @@
 #include <unistd.h>
 #include "../library.h"
 
-enum { MOST = 32 };
+enum { MAX_HANDLERS = 32 };
 
 #ifdef IT_ON_EXIT
 static struct IT_PAGE_ALIGNED {
     unsigned count;
-    struct { void (*function)(int, void *); void *argument; } of[MOST];
+    struct { void (*function)(int, void *); void *argument; } entry[MAX_HANDLERS];
 } handlers;
 
 /* It is registered with atexit once for each handler, so that all handlers are called in order. */
 static void call_last(void)
 {
     handlers.count--;
-    handlers.of[handlers.count].function(it_exit_code, handlers.of[handlers.count].argument);
+    handlers.entry[handlers.count].function(it_exit_code, handlers.entry[handlers.count].argument);
 }
 
 IT_REPLACEABLE int on_exit(void (*function)(int, void *), void *argument)
 {
     it_lock_library();
-    int fits = handlers.count < MOST;
+    int fits = handlers.count < MAX_HANDLERS;
     if (fits) {
-        handlers.of[handlers.count].function = function;
-        handlers.of[handlers.count++].argument = argument;
+        handlers.entry[handlers.count].function = function;
+        handlers.entry[handlers.count++].argument = argument;
     }
     it_unlock_library();
     return fits ? atexit(call_last) : -1;
@@ -33,13 +33,13 @@ IT_REPLACEABLE int on_exit(void (*function)(int, void *), void *argument)
 
 static struct IT_PAGE_ALIGNED {
     unsigned count;
-    void (*function[MOST])(void);
+    void (*function[MAX_HANDLERS])(void);
 } quick;
 
 int at_quick_exit(void (*function)(void))
 {
     it_lock_library();
-    int fits = quick.count < MOST;
+    int fits = quick.count < MAX_HANDLERS;
     if (fits)
         quick.function[quick.count++] = function;
     it_unlock_library();
@@ -50,6 +50,6 @@ void quick_exit(int code)
 {
     while (quick.count)
         quick.function[--quick.count]();
-    it_settle();
+    it_finish_io();
     _exit(code);
 }

@@ -5,31 +5,31 @@
 #include <stdlib.h>
 #include "../library.h"
 
-enum { FIRST_ROOM = 128 };
+enum { INITIAL_SIZE = 128 };
 
 struct memstream {
     struct __file_close stream;
     char **text;
     size_t *size;
     char *bytes;
-    size_t count, room; /* the zero isn't counted */
+    size_t count, capacity; /* the zero isn't counted */
 };
 
-static int put(char byte, FILE *stream)
+static int put_byte(char byte, FILE *stream)
 {
     struct memstream *to = (struct memstream *)stream;
-    if (to->count + 1 == to->room) {
-        char *grown = realloc(to->bytes, 2 * to->room);
-        if (!grown)
+    if (to->count + 1 == to->capacity) {
+        char *larger = realloc(to->bytes, 2 * to->capacity);
+        if (!larger)
             return EOF;
-        to->bytes = grown;
-        to->room *= 2;
+        to->bytes = larger;
+        to->capacity *= 2;
     }
     to->bytes[to->count++] = byte;
     return (unsigned char)byte;
 }
 
-static int tell(FILE *stream)
+static int store_result(FILE *stream)
 {
     struct memstream *to = (struct memstream *)stream;
     to->bytes[to->count] = 0;
@@ -38,25 +38,27 @@ static int tell(FILE *stream)
     return 0;
 }
 
-static int end(FILE *stream)
+static int close_stream(FILE *stream)
 {
-    tell(stream);
+    store_result(stream);
     free(stream);
     return 0;
 }
 
 IT_REPLACEABLE FILE *open_memstream(char **text, size_t *size)
 {
-    struct memstream *made = malloc(sizeof *made);
-    char *bytes = malloc(FIRST_ROOM);
-    if (!made || !bytes) {
-        free(made);
+    struct memstream *opened = malloc(sizeof *opened);
+    char *bytes = malloc(INITIAL_SIZE);
+    if (!opened || !bytes) {
+        free(opened);
         free(bytes);
         errno = ENOMEM;
         return NULL;
     }
-    *made = (struct memstream) { FDEV_SETUP_CLOSE(put, NULL, tell, end, _FDEV_SETUP_WRITE), text, size, bytes, 0,
-                                 FIRST_ROOM };
-    tell(&made->stream.file);
-    return &made->stream.file;
+    *opened = (struct memstream) {
+        FDEV_SETUP_CLOSE(put_byte, NULL, store_result, close_stream, _FDEV_SETUP_WRITE), text, size, bytes, 0,
+        INITIAL_SIZE
+    };
+    store_result(&opened->stream.file);
+    return &opened->stream.file;
 }

@@ -7,20 +7,20 @@
 #include <string.h>
 #include "../library.h"
 
-enum { LONGEST = 251 };
+enum { MAX_NAME = 251 };
 
 static struct IT_PAGE_ALIGNED {
     pthread_mutex_t mutex;
     struct named {
-        char name[LONGEST + 1]; /* empty: there is none */
+        char name[MAX_NAME + 1]; /* empty: there is none */
         sem_t semaphore;
-        unsigned opened;
-    } of[IT_FOR_PROGRAMS];
-} all = { PTHREAD_MUTEX_INITIALIZER, { { "", { 0 }, 0 } } };
+        unsigned open_count;
+    } entry[IT_PROGRAM_OBJECTS];
+} semaphores = { PTHREAD_MUTEX_INITIALIZER, { { "", { 0 }, 0 } } };
 
-static int end(int error)
+static int unlock_result(int error)
 {
-    pthread_mutex_unlock(&all.mutex);
+    pthread_mutex_unlock(&semaphores.mutex);
     if (error == 0)
         return 0;
     errno = error;
@@ -28,12 +28,12 @@ static int end(int error)
 }
 
 /* A name without its leading slashes; or null, with errno set. */
-static const char *checked(const char *name)
+static const char *strip_slashes(const char *name)
 {
     name += strspn(name, "/");
     if (!*name || strchr(name, '/'))
         errno = EINVAL;
-    else if (strlen(name) > LONGEST)
+    else if (strlen(name) > MAX_NAME)
         errno = ENAMETOOLONG;
     else
         return name;
@@ -42,7 +42,7 @@ static const char *checked(const char *name)
 
 static struct named *find(const char *name)
 {
-    for (struct named *named = all.of; named != all.of + IT_FOR_PROGRAMS; named++)
+    for (struct named *named = semaphores.entry; named != semaphores.entry + IT_PROGRAM_OBJECTS; named++)
         if (!strcmp(named->name, name))
             return named;
     return NULL;
@@ -51,19 +51,19 @@ static struct named *find(const char *name)
 /* One that has no name and isn't open. */
 static struct named *find_free(void)
 {
-    for (struct named *named = all.of; named != all.of + IT_FOR_PROGRAMS; named++)
-        if (!named->name[0] && !named->opened)
+    for (struct named *named = semaphores.entry; named != semaphores.entry + IT_PROGRAM_OBJECTS; named++)
+        if (!named->name[0] && !named->open_count)
             return named;
     return NULL;
 }
 
-static void leave(struct named *named)
+static void destroy_if_unused(struct named *named)
 {
-    if (!named->name[0] && !named->opened)
+    if (!named->name[0] && !named->open_count)
         sem_destroy(&named->semaphore);
 }
 
-static struct named *make(const char *name, unsigned value)
+static struct named *create(const char *name, unsigned value)
 {
     struct named *named = find_free();
     if (!named)
@@ -78,51 +78,51 @@ IT_REPLACEABLE sem_t *sem_open(const char *name, int flags, ...)
 {
     unsigned value = 0;
     if (flags & O_CREAT) {
-        va_list more;
-        va_start(more, flags);
-        (void)va_arg(more, unsigned);
-        value = va_arg(more, unsigned);
-        va_end(more);
+        va_list arguments;
+        va_start(arguments, flags);
+        (void)va_arg(arguments, unsigned);
+        value = va_arg(arguments, unsigned);
+        va_end(arguments);
     }
-    if (!(name = checked(name)))
+    if (!(name = strip_slashes(name)))
         return SEM_FAILED;
-    pthread_mutex_lock(&all.mutex);
+    pthread_mutex_lock(&semaphores.mutex);
     struct named *named = find(name);
     int error = 0;
     if (named && (flags & O_CREAT) && (flags & O_EXCL))
         error = EEXIST;
     else if (!named && !(flags & O_CREAT))
         error = ENOENT;
-    else if (!named && !(named = make(name, value)))
+    else if (!named && !(named = create(name, value)))
         error = errno;
     if (!error)
-        named->opened++;
-    return end(error) == 0 ? &named->semaphore : SEM_FAILED;
+        named->open_count++;
+    return unlock_result(error) == 0 ? &named->semaphore : SEM_FAILED;
 }
 
 IT_REPLACEABLE int sem_close(sem_t *semaphore)
 {
-    pthread_mutex_lock(&all.mutex);
-    for (struct named *named = all.of; named != all.of + IT_FOR_PROGRAMS; named++)
-        if (&named->semaphore == semaphore && named->opened) {
-            named->opened--;
-            leave(named);
-            return end(0);
+    pthread_mutex_lock(&semaphores.mutex);
+    for (struct named *named = semaphores.entry; named != semaphores.entry + IT_PROGRAM_OBJECTS; named++)
+        if (&named->semaphore == semaphore && named->open_count) {
+            named->open_count--;
+            destroy_if_unused(named);
+            return unlock_result(0);
         }
-    return end(EINVAL);
+    return unlock_result(EINVAL);
 }
 
 IT_REPLACEABLE int sem_unlink(const char *name)
 {
-    if (!(name = checked(name))) {
+    if (!(name = strip_slashes(name))) {
         errno = errno == EINVAL ? ENOENT : errno;
         return -1;
     }
-    pthread_mutex_lock(&all.mutex);
+    pthread_mutex_lock(&semaphores.mutex);
     struct named *named = find(name);
     if (!named)
-        return end(ENOENT);
+        return unlock_result(ENOENT);
     named->name[0] = 0;
-    leave(named);
-    return end(0);
+    destroy_if_unused(named);
+    return unlock_result(0);
 }

@@ -7,34 +7,34 @@
 #include <pthread.h>
 #include "../library.h"
 
-enum { WRITES = 0xFFFF, READERS = 0xFFFF, ONE_WAITS = 0x10000 };
+enum { WRITER = 0xFFFF, READERS = 0xFFFF, ONE_WAITER = 0x10000 };
 
 /* How many times the thread has locked each lock to read; -1 if it writes. */
 static _Thread_local int held[IT_OBJECTS];
 
-static int is_free_to(int state, int write)
+static int can_lock(int state, int write)
 {
-    return write ? (state & READERS) == 0 : state < ONE_WAITS && state != WRITES;
+    return write ? (state & READERS) == 0 : state < ONE_WAITER && state != WRITER;
 }
 
-static void enter(unsigned number)
+static void lock_state(unsigned number)
 {
     it_ordered_call(IT_CALL_LOCK, number, 0);
 }
 
-static void leave(unsigned number)
+static void unlock_state(unsigned number)
 {
     it_call(IT_CALL_UNLOCK, number, 0);
 }
 
 /* Takes the lock, which the thread may have now. */
-static void take(pthread_rwlock_t *lock, unsigned number, int write)
+static void acquire(pthread_rwlock_t *lock, unsigned number, int write)
 {
-    lock->unused += write ? WRITES : 1;
+    lock->unused += write ? WRITER : 1;
     held[number] = write ? -1 : 1;
 }
 
-static int try(pthread_rwlock_t *lock, int write)
+static int try_lock(pthread_rwlock_t *lock, int write)
 {
     unsigned number = it_number_or_end(IT_MUTEX, lock);
     if (held[number] < 0 || (held[number] && write))
@@ -43,41 +43,41 @@ static int try(pthread_rwlock_t *lock, int write)
         held[number]++;
         return 0;
     }
-    enter(number);
-    int is_free = is_free_to(lock->unused, write);
-    if (is_free)
-        take(lock, number, write);
-    leave(number);
-    return is_free ? 0 : EBUSY;
+    lock_state(number);
+    int acquired = can_lock(lock->unused, write);
+    if (acquired)
+        acquire(lock, number, write);
+    unlock_state(number);
+    return acquired ? 0 : EBUSY;
 }
 
-static int wait(pthread_rwlock_t *lock, int write)
+static int wait_lock(pthread_rwlock_t *lock, int write)
 {
-    int answer = try(lock, write);
-    if (answer != EBUSY)
-        return answer;
+    int result = try_lock(lock, write);
+    if (result != EBUSY)
+        return result;
     unsigned number = it_number_or_end(IT_MUTEX, lock), condition = it_number_or_end(IT_CONDITION, lock);
-    enter(number);
-    lock->unused += write ? ONE_WAITS : 0;
-    while (!is_free_to(lock->unused, write))
+    lock_state(number);
+    lock->unused += write ? ONE_WAITER : 0;
+    while (!can_lock(lock->unused, write))
         it_call(IT_CALL_COND_WAIT, condition, number);
-    lock->unused -= write ? ONE_WAITS : 0;
-    take(lock, number, write);
-    leave(number);
+    lock->unused -= write ? ONE_WAITER : 0;
+    acquire(lock, number, write);
+    unlock_state(number);
     return 0;
 }
 
 /* For a call that only tries, a lock that the thread already holds is busy. */
-static int tried(int answer)
+static int busy_result(int result)
 {
-    return answer == EDEADLK ? EBUSY : answer;
+    return result == EDEADLK ? EBUSY : result;
 }
 
-IT_GIVES(int, it_try_to_read, (pthread_rwlock_t *lock), try(lock, 0))
-IT_GIVES(int, pthread_rwlock_rdlock, (pthread_rwlock_t *lock), wait(lock, 0))
-IT_GIVES(int, pthread_rwlock_wrlock, (pthread_rwlock_t *lock), wait(lock, 1))
-IT_GIVES(int, pthread_rwlock_tryrdlock, (pthread_rwlock_t *lock), tried(try(lock, 0)))
-IT_GIVES(int, pthread_rwlock_trywrlock, (pthread_rwlock_t *lock), tried(try(lock, 1)))
+IT_RETURNS(int, it_tryrdlock, (pthread_rwlock_t *lock), try_lock(lock, 0))
+IT_RETURNS(int, pthread_rwlock_rdlock, (pthread_rwlock_t *lock), wait_lock(lock, 0))
+IT_RETURNS(int, pthread_rwlock_wrlock, (pthread_rwlock_t *lock), wait_lock(lock, 1))
+IT_RETURNS(int, pthread_rwlock_tryrdlock, (pthread_rwlock_t *lock), busy_result(try_lock(lock, 0)))
+IT_RETURNS(int, pthread_rwlock_trywrlock, (pthread_rwlock_t *lock), busy_result(try_lock(lock, 1)))
 
 IT_REPLACEABLE int pthread_rwlock_unlock(pthread_rwlock_t *lock)
 {
@@ -88,12 +88,12 @@ IT_REPLACEABLE int pthread_rwlock_unlock(pthread_rwlock_t *lock)
         held[number]--;
         return 0;
     }
-    enter(number);
-    lock->unused -= held[number] < 0 ? WRITES : 1;
+    lock_state(number);
+    lock->unused -= held[number] < 0 ? WRITER : 1;
     held[number] = 0;
     if ((lock->unused & READERS) == 0)
         it_call(IT_CALL_BROADCAST, it_number_or_end(IT_CONDITION, lock), 0);
-    leave(number);
+    unlock_state(number);
     return 0;
 }
 
@@ -109,13 +109,13 @@ IT_REPLACEABLE int pthread_rwlock_init(pthread_rwlock_t *restrict lock, const pt
 IT_REPLACEABLE int pthread_rwlock_destroy(pthread_rwlock_t *lock)
 {
     unsigned number = it_number_or_end(IT_MUTEX, lock);
-    enter(number);
+    lock_state(number);
     int busy = lock->unused != 0;
-    leave(number);
+    unlock_state(number);
     if (busy)
         return EBUSY;
-    it_forget(IT_MUTEX, lock);
-    it_forget(IT_CONDITION, lock);
+    it_free_number(IT_MUTEX, lock);
+    it_free_number(IT_CONDITION, lock);
     return 0;
 }
 #endif

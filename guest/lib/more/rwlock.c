@@ -10,20 +10,20 @@
 static struct table locks;
 
 /* How many times the thread has locked each lock to read, besides the machine's one time. */
-static _Thread_local unsigned more[IT_OBJECTS];
+static _Thread_local unsigned extra_reads[IT_OBJECTS];
 
 /* Returns the number of a lock, and gives it one if it has none; -1 if all are in use. */
-static int number_of(const pthread_rwlock_t *lock)
+static int lock_number(const pthread_rwlock_t *lock)
 {
-    unsigned place;
-    int number = find(&locks, (unsigned)lock, &place);
+    unsigned slot;
+    int number = find_object(&locks, (unsigned)lock, &slot);
     if (number >= 0)
         return number;
     it_lock_library();
-    number = find(&locks, (unsigned)lock, &place);
-    if (number < 0 && place < IT_FOR_PROGRAMS) {
-        number = (int)place;
-        locks.object[place] = (unsigned)lock;
+    number = find_object(&locks, (unsigned)lock, &slot);
+    if (number < 0 && slot < IT_PROGRAM_OBJECTS) {
+        number = (int)slot;
+        locks.object[slot] = (unsigned)lock;
     }
     it_unlock_library();
     return number;
@@ -31,13 +31,13 @@ static int number_of(const pthread_rwlock_t *lock)
 
 static unsigned number_or_end(const pthread_rwlock_t *lock)
 {
-    int number = number_of(lock);
+    int number = lock_number(lock);
     if (number < 0)
-        it_end_by("more than 63 reader-writer locks are in use");
+        it_abort_with("more than 63 reader-writer locks are in use");
     return (unsigned)number;
 }
 
-static int call(enum it_call which, unsigned number)
+static int lock_call(enum it_call which, unsigned number)
 {
     switch (it_ordered_call(which, number, 0)) {
     case 0:
@@ -56,17 +56,17 @@ static int call(enum it_call which, unsigned number)
 IT_REPLACEABLE int pthread_rwlock_init(pthread_rwlock_t *restrict lock, const pthread_rwlockattr_t *restrict attributes)
 {
     (void)attributes;
-    return number_of(lock) < 0 ? EAGAIN : 0;
+    return lock_number(lock) < 0 ? EAGAIN : 0;
 }
 
 IT_REPLACEABLE int pthread_rwlock_destroy(pthread_rwlock_t *lock)
 {
     unsigned number = number_or_end(lock);
-    if (call(IT_CALL_TRYWRLOCK, number) != 0)
+    if (lock_call(IT_CALL_TRYWRLOCK, number) != 0)
         return EBUSY;
-    call(IT_CALL_RWUNLOCK, number);
+    lock_call(IT_CALL_RWUNLOCK, number);
     it_lock_library();
-    locks.object[number] = GONE;
+    locks.object[number] = DELETED;
     it_unlock_library();
     return 0;
 }
@@ -75,22 +75,22 @@ IT_REPLACEABLE int pthread_rwlock_destroy(pthread_rwlock_t *lock)
 IT_REPLACEABLE int pthread_rwlock_rdlock(pthread_rwlock_t *lock)
 {
     unsigned number = number_or_end(lock);
-    int answer = call(IT_CALL_RDLOCK, number);
-    if (answer != EAGAIN)
-        return answer;
-    more[number]++;
+    int result = lock_call(IT_CALL_RDLOCK, number);
+    if (result != EAGAIN)
+        return result;
+    extra_reads[number]++;
     return 0;
 }
 
-IT_GIVES(int, pthread_rwlock_wrlock, (pthread_rwlock_t *lock), call(IT_CALL_WRLOCK, number_or_end(lock)))
-IT_GIVES(int, pthread_rwlock_trywrlock, (pthread_rwlock_t *lock), call(IT_CALL_TRYWRLOCK, number_or_end(lock)))
+IT_RETURNS(int, pthread_rwlock_wrlock, (pthread_rwlock_t *lock), lock_call(IT_CALL_WRLOCK, number_or_end(lock)))
+IT_RETURNS(int, pthread_rwlock_trywrlock, (pthread_rwlock_t *lock), lock_call(IT_CALL_TRYWRLOCK, number_or_end(lock)))
 
 IT_REPLACEABLE int pthread_rwlock_unlock(pthread_rwlock_t *lock)
 {
     unsigned number = number_or_end(lock);
-    if (more[number] == 0)
-        return call(IT_CALL_RWUNLOCK, number);
-    more[number]--;
+    if (extra_reads[number] == 0)
+        return lock_call(IT_CALL_RWUNLOCK, number);
+    extra_reads[number]--;
     return 0;
 }
 

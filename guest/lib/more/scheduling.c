@@ -7,7 +7,7 @@
 #include "../attributes.h"
 #include "../library.h"
 
-enum { STACKS = 0xD0000000, LOWEST = 1, HIGHEST = 99, NAME = 16 };
+enum { STACK_BASE = 0xD0000000, MIN_PRIORITY = 1, MAX_PRIORITY = 99, NAME_SIZE = 16 };
 
 static int is_policy(int policy)
 {
@@ -18,7 +18,7 @@ static int has_priority(int policy, int priority)
 {
     if (policy == SCHED_OTHER)
         return priority == 0;
-    return is_policy(policy) && priority >= LOWEST && priority <= HIGHEST;
+    return is_policy(policy) && priority >= MIN_PRIORITY && priority <= MAX_PRIORITY;
 }
 
 /* ---------------------------------------------------------------------------------------------- attributes ---- */
@@ -61,11 +61,11 @@ IT_ATTRIBUTE(, pthread_attr_getinheritsched, pthread_attr_t, int, inherit)
 
 /* The properties set for threads. */
 static struct IT_PAGE_ALIGNED {
-    struct { short policy, priority; } of[IT_THREADS];
+    struct { short policy, priority; } entry[IT_THREADS];
     unsigned char affinity[IT_THREADS]; /* 0: all */
-    char name[IT_THREADS][NAME];
+    char name[IT_THREADS][NAME_SIZE];
     int level;
-} kept;
+} properties;
 
 int pthread_setschedparam(pthread_t thread, int policy, const struct sched_param *parameters)
 {
@@ -73,8 +73,8 @@ int pthread_setschedparam(pthread_t thread, int policy, const struct sched_param
         return ESRCH;
     if (!has_priority(policy, parameters->sched_priority))
         return EINVAL;
-    kept.of[thread].policy = (short)policy;
-    kept.of[thread].priority = (short)parameters->sched_priority;
+    properties.entry[thread].policy = (short)policy;
+    properties.entry[thread].priority = (short)parameters->sched_priority;
     return 0;
 }
 
@@ -82,42 +82,42 @@ int pthread_getschedparam(pthread_t thread, int *restrict policy, struct sched_p
 {
     if (thread >= IT_THREADS)
         return ESRCH;
-    *policy = kept.of[thread].policy;
-    parameters->sched_priority = kept.of[thread].priority;
+    *policy = properties.entry[thread].policy;
+    parameters->sched_priority = properties.entry[thread].priority;
     return 0;
 }
 
-unsigned it_scheduling_for(const void *of)
+unsigned it_scheduling_for(const void *pointer)
 {
-    const pthread_attr_t *attributes = of;
+    const pthread_attr_t *attributes = pointer;
     if (attributes && attributes->inherit == PTHREAD_EXPLICIT_SCHED)
         return (unsigned)attributes->policy << 8 | (unsigned)attributes->priority;
-    return (unsigned)kept.of[it_self.number].policy << 8 | (unsigned)kept.of[it_self.number].priority;
+    return (unsigned)properties.entry[it_self.number].policy << 8 | (unsigned)properties.entry[it_self.number].priority;
 }
 
-void it_keep_scheduling(unsigned thread, unsigned scheduling)
+void it_set_scheduling(unsigned thread, unsigned scheduling)
 {
-    kept.of[thread].policy = (short)(scheduling >> 8);
-    kept.of[thread].priority = (short)(scheduling & 255);
+    properties.entry[thread].policy = (short)(scheduling >> 8);
+    properties.entry[thread].priority = (short)(scheduling & 255);
 }
 
 int pthread_setschedprio(pthread_t thread, int priority)
 {
     struct sched_param parameters = { .sched_priority = priority };
-    return thread < IT_THREADS ? pthread_setschedparam(thread, kept.of[thread].policy, &parameters) : ESRCH;
+    return thread < IT_THREADS ? pthread_setschedparam(thread, properties.entry[thread].policy, &parameters) : ESRCH;
 }
 
 int pthread_setconcurrency(int level)
 {
     if (level < 0)
         return EINVAL;
-    kept.level = level;
+    properties.level = level;
     return 0;
 }
 
 int pthread_getconcurrency(void)
 {
-    return kept.level;
+    return properties.level;
 }
 
 int pthread_atfork(void (*prepare)(void), void (*parent)(void), void (*child)(void))
@@ -135,9 +135,9 @@ IT_REPLACEABLE int pthread_setname_np(pthread_t thread, const char *name)
 {
     if (thread >= IT_THREADS)
         return ESRCH;
-    if (strlen(name) >= NAME)
+    if (strlen(name) >= NAME_SIZE)
         return ERANGE;
-    strcpy(kept.name[thread], name);
+    strcpy(properties.name[thread], name);
     return 0;
 }
 
@@ -146,11 +146,11 @@ IT_REPLACEABLE int pthread_getname_np(pthread_t thread, char *name, size_t size)
     extern char *it_words[];
     if (thread >= IT_THREADS)
         return ESRCH;
-    const char *from = kept.name[thread][0] ? kept.name[thread] : it_words[1];
-    if (size < NAME)
+    const char *from = properties.name[thread][0] ? properties.name[thread] : it_words[1];
+    if (size < NAME_SIZE)
         return ERANGE;
-    strncpy(name, from, NAME - 1);
-    name[NAME - 1] = 0;
+    strncpy(name, from, NAME_SIZE - 1);
+    name[NAME_SIZE - 1] = 0;
     return 0;
 }
 
@@ -159,9 +159,9 @@ IT_REPLACEABLE int pthread_getattr_np(pthread_t thread, pthread_attr_t *attribut
     if (thread >= IT_THREADS)
         return ESRCH;
     pthread_attr_init(attributes);
-    attributes->address = (char *)STACKS + thread * IT_STACK;
-    attributes->policy = kept.of[thread].policy;
-    attributes->priority = kept.of[thread].priority;
+    attributes->address = (char *)STACK_BASE + thread * IT_STACK;
+    attributes->policy = properties.entry[thread].policy;
+    attributes->priority = properties.entry[thread].priority;
 #ifdef IT_DETACHED
     attributes->detached = (short)it_is_detached(thread);
 #endif
@@ -184,7 +184,7 @@ IT_REPLACEABLE int pthread_setaffinity_np(pthread_t thread, size_t size, const c
         return ESRCH;
     if (size < sizeof(unsigned) || !(set->bits[0] & ALL_PROCESSORS))
         return EINVAL;
-    kept.affinity[thread] = (unsigned char)(set->bits[0] & ALL_PROCESSORS);
+    properties.affinity[thread] = (unsigned char)(set->bits[0] & ALL_PROCESSORS);
     return 0;
 }
 
@@ -195,13 +195,13 @@ IT_REPLACEABLE int pthread_getaffinity_np(pthread_t thread, size_t size, cpu_set
     if (size < sizeof(unsigned))
         return EINVAL;
     memset(set, 0, size);
-    set->bits[0] = kept.affinity[thread] ? kept.affinity[thread] : ALL_PROCESSORS;
+    set->bits[0] = properties.affinity[thread] ? properties.affinity[thread] : ALL_PROCESSORS;
     return 0;
 }
 
 /* ---------------------------------------------------------------------------------------------- the process ---- */
 
-static int told(int error)
+static int errno_result(int error)
 {
     if (error == 0)
         return 0;
@@ -211,12 +211,12 @@ static int told(int error)
 
 IT_REPLACEABLE int sched_get_priority_min(int policy)
 {
-    return is_policy(policy) ? policy == SCHED_OTHER ? 0 : LOWEST : told(EINVAL);
+    return is_policy(policy) ? policy == SCHED_OTHER ? 0 : MIN_PRIORITY : errno_result(EINVAL);
 }
 
 IT_REPLACEABLE int sched_get_priority_max(int policy)
 {
-    return is_policy(policy) ? policy == SCHED_OTHER ? 0 : HIGHEST : told(EINVAL);
+    return is_policy(policy) ? policy == SCHED_OTHER ? 0 : MAX_PRIORITY : errno_result(EINVAL);
 }
 
 /* For a process these act on main's thread. */
@@ -227,33 +227,33 @@ static int is_process(pid_t process)
 
 IT_REPLACEABLE int sched_setscheduler(pid_t process, int policy, const struct sched_param *parameters)
 {
-    return told(is_process(process) ? pthread_setschedparam(0, policy, parameters) : ESRCH);
+    return errno_result(is_process(process) ? pthread_setschedparam(0, policy, parameters) : ESRCH);
 }
 
 IT_REPLACEABLE int sched_getscheduler(pid_t process)
 {
-    return is_process(process) ? kept.of[0].policy : told(ESRCH);
+    return is_process(process) ? properties.entry[0].policy : errno_result(ESRCH);
 }
 
 IT_REPLACEABLE int sched_setparam(pid_t process, const struct sched_param *parameters)
 {
-    return told(is_process(process) ? pthread_setschedprio(0, parameters->sched_priority) : ESRCH);
+    return errno_result(is_process(process) ? pthread_setschedprio(0, parameters->sched_priority) : ESRCH);
 }
 
 IT_REPLACEABLE int sched_getparam(pid_t process, struct sched_param *parameters)
 {
     if (!is_process(process))
-        return told(ESRCH);
-    parameters->sched_priority = kept.of[0].priority;
+        return errno_result(ESRCH);
+    parameters->sched_priority = properties.entry[0].priority;
     return 0;
 }
 
 IT_REPLACEABLE int sched_setaffinity(pid_t process, size_t size, const cpu_set_t *set)
 {
-    return told(is_process(process) ? pthread_setaffinity_np(0, size, set) : ESRCH);
+    return errno_result(is_process(process) ? pthread_setaffinity_np(0, size, set) : ESRCH);
 }
 
 IT_REPLACEABLE int sched_getaffinity(pid_t process, size_t size, cpu_set_t *set)
 {
-    return told(is_process(process) ? pthread_getaffinity_np(0, size, set) : ESRCH);
+    return errno_result(is_process(process) ? pthread_getaffinity_np(0, size, set) : ESRCH);
 }

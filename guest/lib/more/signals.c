@@ -7,42 +7,42 @@
 #include <unistd.h>
 #include "../library.h"
 
-enum { INTERNAL = 32, MOST_WAITING = 128, WHOLE_PROCESS = IT_THREADS, BY_SIGNAL = 128 };
+enum { INTERNAL = 32, MAX_PENDING = 128, WHOLE_PROCESS = IT_THREADS, SIGNAL_EXIT_BASE = 128 };
 
 static struct IT_PAGE_ALIGNED {
     struct sigaction action[NSIG];
     unsigned count, waiters; /* threads that wait for a signal */
-    struct waiting {
+    struct pending {
         siginfo_t info;
         unsigned thread; /* or WHOLE_PROCESS */
-    } waiting[MOST_WAITING]; /* in order of arrival */
-} all;
+    } pending[MAX_PENDING]; /* in order of arrival */
+} signals;
 
 static _Thread_local sigset_t blocked;
-static _Thread_local unsigned caught; /* how many handlers have returned */
+static _Thread_local unsigned handled; /* how many handlers have returned */
 
 /* ---------------------------------------------------------------------------------------------- sets ---- */
 
-static int fails(int error)
+static int fail_with(int error)
 {
     errno = error;
     return -1;
 }
 
 /* The two numbers after the standard signals are glibc's own on Linux. */
-static int exists(int number)
+static int is_signal(int number)
 {
     return number > 0 && number < NSIG && (number < INTERNAL || number >= SIGRTMIN);
 }
 
-static sigset_t only(int number)
+static sigset_t signal_bit(int number)
 {
     return 1ull << (number - 1);
 }
 
-static sigset_t without_fixed(sigset_t set)
+static sigset_t without_unblockable(sigset_t set)
 {
-    return set & ~(only(SIGKILL) | only(SIGSTOP));
+    return set & ~(signal_bit(SIGKILL) | signal_bit(SIGSTOP));
 }
 
 int sigemptyset(sigset_t *set)
@@ -53,35 +53,35 @@ int sigemptyset(sigset_t *set)
 
 int sigfillset(sigset_t *set)
 {
-    *set = ~(only(INTERNAL) | only(INTERNAL + 1));
+    *set = ~(signal_bit(INTERNAL) | signal_bit(INTERNAL + 1));
     return 0;
 }
 
 int sigaddset(sigset_t *set, int number)
 {
-    if (!exists(number))
-        return fails(EINVAL);
-    *set |= only(number);
+    if (!is_signal(number))
+        return fail_with(EINVAL);
+    *set |= signal_bit(number);
     return 0;
 }
 
 int sigdelset(sigset_t *set, int number)
 {
-    if (!exists(number))
-        return fails(EINVAL);
-    *set &= ~only(number);
+    if (!is_signal(number))
+        return fail_with(EINVAL);
+    *set &= ~signal_bit(number);
     return 0;
 }
 
 int sigismember(const sigset_t *set, int number)
 {
-    return exists(number) ? (*set & only(number)) != 0 : fails(EINVAL);
+    return is_signal(number) ? (*set & signal_bit(number)) != 0 : fail_with(EINVAL);
 }
 
 /* ---------------------------------------------------------------------------------------------- taking ---- */
 
 /* Whether the thread takes the first before the second: its own before the process's, then the lower number first. */
-static int goes_before(const struct waiting *first, const struct waiting *second)
+static int precedes(const struct pending *first, const struct pending *second)
 {
     if (first->thread != second->thread)
         return first->thread != WHOLE_PROCESS;
@@ -89,104 +89,105 @@ static int goes_before(const struct waiting *first, const struct waiting *second
 }
 
 /* The place of the next signal of a set that the thread may take; all.count if there is none. */
-static unsigned next_of(sigset_t set)
+static unsigned next_pending(sigset_t set)
 {
-    unsigned found = all.count;
-    for (unsigned k = 0; k < all.count; k++) {
-        const struct waiting *one = &all.waiting[k];
-        if (one->thread != WHOLE_PROCESS && one->thread != it_self.number)
+    unsigned found = signals.count;
+    for (unsigned k = 0; k < signals.count; k++) {
+        const struct pending *entry = &signals.pending[k];
+        if (entry->thread != WHOLE_PROCESS && entry->thread != it_self.number)
             continue;
-        if ((set & only(one->info.si_signo)) && (found == all.count || goes_before(one, &all.waiting[found])))
+        if ((set & signal_bit(entry->info.si_signo))
+            && (found == signals.count || precedes(entry, &signals.pending[found])))
             found = k;
     }
     return found;
 }
 
-static void take_out(unsigned place)
+static void remove_pending(unsigned index)
 {
-    for (all.count--; place < all.count; place++)
-        all.waiting[place] = all.waiting[place + 1];
+    for (signals.count--; index < signals.count; index++)
+        signals.pending[index] = signals.pending[index + 1];
 }
 
-static int take(sigset_t set, siginfo_t *info)
+static int take_pending(sigset_t set, siginfo_t *info)
 {
     it_lock_library();
-    unsigned place = next_of(set);
-    int some = place < all.count;
-    if (some) {
-        *info = all.waiting[place].info;
-        take_out(place);
+    unsigned index = next_pending(set);
+    int found = index < signals.count;
+    if (found) {
+        *info = signals.pending[index].info;
+        remove_pending(index);
     }
     it_unlock_library();
-    return some;
+    return found;
 }
 
 static int is_ignored(int number, _sig_func_ptr handler)
 {
-    sigset_t unnoticed = only(SIGCHLD) | only(SIGCONT) | only(SIGURG) | only(SIGWINCH);
-    return handler == SIG_IGN || (handler == SIG_DFL && (unnoticed & only(number)));
+    sigset_t ignored_by_default = signal_bit(SIGCHLD) | signal_bit(SIGCONT) | signal_bit(SIGURG) | signal_bit(SIGWINCH);
+    return handler == SIG_IGN || (handler == SIG_DFL && (ignored_by_default & signal_bit(number)));
 }
 
-static __attribute__((noreturn)) void end_by(int number)
+static __attribute__((noreturn)) void end_by_signal(int number)
 {
     fprintf(stderr, "guest ended: %s\n", strsignal(number));
-    it_settle();
-    _exit(BY_SIGNAL + number);
+    it_finish_io();
+    _exit(SIGNAL_EXIT_BASE + number);
 }
 
-static void take_all(void);
+static void handle_pending(void);
 
 /* As on Linux, other pending signals that the handler doesn't block are handled first. */
-static void handle(siginfo_t *info)
+static void handle_signal(siginfo_t *info)
 {
     int number = info->si_signo;
-    struct sigaction action = all.action[number];
-    sigset_t before = blocked;
+    struct sigaction action = signals.action[number];
+    sigset_t previous = blocked;
     if (is_ignored(number, action.sa_handler))
         return;
     if (action.sa_handler == SIG_DFL)
-        end_by(number);
+        end_by_signal(number);
     if (action.sa_flags & (int)SA_RESETHAND)
-        all.action[number].sa_handler = SIG_DFL;
+        signals.action[number].sa_handler = SIG_DFL;
     blocked |= action.sa_mask;
     if (!(action.sa_flags & SA_NODEFER))
-        blocked |= only(number);
-    take_all();
+        blocked |= signal_bit(number);
+    handle_pending();
     if (action.sa_flags & SA_SIGINFO)
         action.sa_sigaction(number, info, NULL);
     else
         action.sa_handler(number);
-    blocked = before;
-    caught++;
+    blocked = previous;
+    handled++;
 }
 
-static void take_all(void)
+static void handle_pending(void)
 {
     siginfo_t info;
-    while (take(~blocked, &info))
-        handle(&info);
+    while (take_pending(~blocked, &info))
+        handle_signal(&info);
 }
 
 #ifdef IT_SIGNALS
 int it_take_signals(void)
 {
-    unsigned already = caught;
-    if (all.count)
-        take_all();
-    return caught != already;
+    unsigned handled_before = handled;
+    if (signals.count)
+        handle_pending();
+    return handled != handled_before;
 }
 #endif
 
 /* ---------------------------------------------------------------------------------------------- sending ---- */
 
-static int put_in(unsigned thread, const siginfo_t *info)
+static int add_pending(unsigned thread, const siginfo_t *info)
 {
-    for (unsigned k = 0; k < all.count && info->si_signo < SIGRTMIN; k++)
-        if (all.waiting[k].thread == thread && all.waiting[k].info.si_signo == info->si_signo)
+    for (unsigned k = 0; k < signals.count && info->si_signo < SIGRTMIN; k++)
+        if (signals.pending[k].thread == thread && signals.pending[k].info.si_signo == info->si_signo)
             return 0;
-    if (all.count == MOST_WAITING)
+    if (signals.count == MAX_PENDING)
         return EAGAIN;
-    all.waiting[all.count++] = (struct waiting) { *info, thread };
+    signals.pending[signals.count++] = (struct pending) { *info, thread };
     return 0;
 }
 
@@ -195,22 +196,22 @@ static int send(unsigned thread, int number, int code, union sigval value)
     siginfo_t info = { .si_signo = number, .si_code = code, .si_pid = getpid(), .si_uid = getuid(), .si_value = value };
     if (number == 0)
         return 0;
-    if (!exists(number))
+    if (!is_signal(number))
         return EINVAL;
-    if (it_self.settle)
-        it_settle();
+    if (it_self.io_pending)
+        it_finish_io();
     it_lock_library();
-    int error = put_in(thread, &info), wakes = all.waiters != 0;
+    int error = add_pending(thread, &info), wake = signals.waiters != 0;
     it_unlock_library();
-    if (wakes)
-        it_call(IT_CALL_BROADCAST, it_number_or_end(IT_CONDITION, &all), 0);
-    take_all();
+    if (wake)
+        it_call(IT_CALL_BROADCAST, it_number_or_end(IT_CONDITION, &signals), 0);
+    handle_pending();
     return error;
 }
 
-static int answered(int error)
+static int errno_result(int error)
 {
-    return error == 0 ? 0 : fails(error);
+    return error == 0 ? 0 : fail_with(error);
 }
 
 int pthread_kill(pthread_t thread, int number)
@@ -220,38 +221,38 @@ int pthread_kill(pthread_t thread, int number)
 
 int raise(int number)
 {
-    return answered(number == 0 ? 0 : pthread_kill(it_self.number, number));
+    return errno_result(number == 0 ? 0 : pthread_kill(it_self.number, number));
 }
 
-static int is_this(pid_t process)
+static int is_own_process(pid_t process)
 {
     return process == 0 || process == getpid() || process == -getpid();
 }
 
 IT_REPLACEABLE int kill(pid_t process, int number)
 {
-    if (number != 0 && !exists(number))
-        return fails(EINVAL);
-    return answered(is_this(process) ? send(WHOLE_PROCESS, number, SI_USER, (union sigval) { 0 }) : ESRCH);
+    if (number != 0 && !is_signal(number))
+        return fail_with(EINVAL);
+    return errno_result(is_own_process(process) ? send(WHOLE_PROCESS, number, SI_USER, (union sigval) { 0 }) : ESRCH);
 }
 
 IT_REPLACEABLE int killpg(pid_t group, int number)
 {
-    return group < 0 ? fails(EINVAL) : kill(-group, number);
+    return group < 0 ? fail_with(EINVAL) : kill(-group, number);
 }
 
 IT_REPLACEABLE int sigqueue(pid_t process, int number, const union sigval value)
 {
-    if (number != 0 && !exists(number))
-        return fails(EINVAL);
-    return answered(process == getpid() ? send(WHOLE_PROCESS, number, SI_QUEUE, value) : ESRCH);
+    if (number != 0 && !is_signal(number))
+        return fail_with(EINVAL);
+    return errno_result(process == getpid() ? send(WHOLE_PROCESS, number, SI_QUEUE, value) : ESRCH);
 }
 
 /* POSIX.1-2017 abort raises SIGABRT even if it is blocked. */
 void it_raise_abort(void)
 {
-    _sig_func_ptr handler = all.action[SIGABRT].sa_handler;
-    blocked &= ~only(SIGABRT);
+    _sig_func_ptr handler = signals.action[SIGABRT].sa_handler;
+    blocked &= ~signal_bit(SIGABRT);
     if (handler != SIG_DFL && handler != SIG_IGN)
         raise(SIGABRT);
 }
@@ -260,22 +261,22 @@ void it_raise_abort(void)
 
 int sigaction(int number, const struct sigaction *restrict action, struct sigaction *restrict old)
 {
-    if (!exists(number) || (action && (number == SIGKILL || number == SIGSTOP)))
-        return fails(EINVAL);
-    struct sigaction before = all.action[number];
+    if (!is_signal(number) || (action && (number == SIGKILL || number == SIGSTOP)))
+        return fail_with(EINVAL);
+    struct sigaction previous = signals.action[number];
     if (action) {
         it_lock_library();
-        all.action[number] = *action;
-        all.action[number].sa_mask = without_fixed(action->sa_mask);
-        for (unsigned k = 0; k < all.count && is_ignored(number, action->sa_handler);)
-            if (all.waiting[k].info.si_signo == number)
-                take_out(k);
+        signals.action[number] = *action;
+        signals.action[number].sa_mask = without_unblockable(action->sa_mask);
+        for (unsigned k = 0; k < signals.count && is_ignored(number, action->sa_handler);)
+            if (signals.pending[k].info.si_signo == number)
+                remove_pending(k);
             else
                 k++;
         it_unlock_library();
     }
     if (old)
-        *old = before;
+        *old = previous;
     return 0;
 }
 
@@ -298,21 +299,22 @@ IT_REPLACEABLE int siginterrupt(int number, int interrupts)
 
 int pthread_sigmask(int how, const sigset_t *restrict set, sigset_t *restrict old)
 {
-    sigset_t before = blocked;
+    sigset_t previous = blocked;
     if (set) {
         if (how != SIG_BLOCK && how != SIG_UNBLOCK && how != SIG_SETMASK)
             return EINVAL;
-        blocked = without_fixed(how == SIG_BLOCK ? before | *set : how == SIG_UNBLOCK ? before & ~*set : *set);
-        take_all();
+        sigset_t changed = how == SIG_BLOCK ? previous | *set : how == SIG_UNBLOCK ? previous & ~*set : *set;
+        blocked = without_unblockable(changed);
+        handle_pending();
     }
     if (old)
-        *old = before;
+        *old = previous;
     return 0;
 }
 
 int sigprocmask(int how, const sigset_t *restrict set, sigset_t *restrict old)
 {
-    return answered(pthread_sigmask(how, set, old));
+    return errno_result(pthread_sigmask(how, set, old));
 }
 
 sigset_t it_blocked_signals(void)
@@ -329,36 +331,36 @@ int sigpending(sigset_t *set)
 {
     *set = 0;
     it_lock_library();
-    for (unsigned k = 0; k < all.count; k++)
-        if (all.waiting[k].thread == WHOLE_PROCESS || all.waiting[k].thread == it_self.number)
-            *set |= blocked & only(all.waiting[k].info.si_signo);
+    for (unsigned k = 0; k < signals.count; k++)
+        if (signals.pending[k].thread == WHOLE_PROCESS || signals.pending[k].thread == it_self.number)
+            *set |= blocked & signal_bit(signals.pending[k].info.si_signo);
     it_unlock_library();
     return 0;
 }
 
 /* ---------------------------------------------------------------------------------------------- waiting ---- */
 
-static void wait_for(sigset_t set)
+static void wait_for_pending(sigset_t set)
 {
-    unsigned condition = it_number_or_end(IT_CONDITION, &all);
+    unsigned condition = it_number_or_end(IT_CONDITION, &signals);
     it_ordered_call(IT_CALL_LOCK, IT_OWN_MUTEX, 0);
-    all.waiters++;
-    while (next_of(set) == all.count)
+    signals.waiters++;
+    while (next_pending(set) == signals.count)
         it_call(IT_CALL_COND_WAIT, condition, IT_OWN_MUTEX);
-    all.waiters--;
+    signals.waiters--;
     it_call(IT_CALL_UNLOCK, IT_OWN_MUTEX, 0);
 }
 
 int sigsuspend(const sigset_t *mask)
 {
-    sigset_t before = blocked;
-    unsigned already = caught;
-    blocked = without_fixed(*mask);
-    for (take_all(); caught == already; take_all())
-        wait_for(~blocked);
-    blocked = before;
-    take_all();
-    return fails(EINTR);
+    sigset_t previous = blocked;
+    unsigned handled_before = handled;
+    blocked = without_unblockable(*mask);
+    for (handle_pending(); handled == handled_before; handle_pending())
+        wait_for_pending(~blocked);
+    blocked = previous;
+    handle_pending();
+    return fail_with(EINTR);
 }
 
 IT_REPLACEABLE int pause(void)
@@ -369,8 +371,8 @@ IT_REPLACEABLE int pause(void)
 int sigwaitinfo(const sigset_t *restrict set, siginfo_t *restrict info)
 {
     siginfo_t taken;
-    while (!take(*set, &taken))
-        wait_for(*set);
+    while (!take_pending(*set, &taken))
+        wait_for_pending(*set);
     if (taken.si_code == SI_TKILL)
         taken.si_code = SI_USER; /* as in glibc */
     if (info)
@@ -386,15 +388,15 @@ int sigwait(const sigset_t *restrict set, int *restrict number)
 
 /* ---------------------------------------------------------------------------------------------- X/Open ---- */
 
-static int change(int how, int number)
+static int change_mask(int how, int number)
 {
     sigset_t set = 0;
     return sigaddset(&set, number) == 0 ? sigprocmask(how, &set, NULL) : -1;
 }
 
-IT_GIVES(int, sighold, (int number), change(SIG_BLOCK, number))
-IT_GIVES(int, sigrelse, (int number), change(SIG_UNBLOCK, number))
-IT_GIVES(int, sigignore, (int number), signal(number, SIG_IGN) == SIG_ERR ? -1 : 0)
+IT_RETURNS(int, sighold, (int number), change_mask(SIG_BLOCK, number))
+IT_RETURNS(int, sigrelse, (int number), change_mask(SIG_UNBLOCK, number))
+IT_RETURNS(int, sigignore, (int number), signal(number, SIG_IGN) == SIG_ERR ? -1 : 0)
 
 IT_REPLACEABLE int sigpause(int number)
 {
@@ -407,9 +409,9 @@ IT_REPLACEABLE _sig_func_ptr sigset(int number, _sig_func_ptr handler)
     struct sigaction action = { .sa_handler = handler }, old;
     if (sigaction(number, handler == SIG_HOLD ? NULL : &action, &old) != 0)
         return SIG_ERR;
-    int held = sigismember(&blocked, number);
-    change(handler == SIG_HOLD ? SIG_BLOCK : SIG_UNBLOCK, number);
-    return held ? SIG_HOLD : old.sa_handler;
+    int was_blocked = sigismember(&blocked, number);
+    change_mask(handler == SIG_HOLD ? SIG_BLOCK : SIG_UNBLOCK, number);
+    return was_blocked ? SIG_HOLD : old.sa_handler;
 }
 
 /* ---------------------------------------------------------------------------------------------- names ---- */

@@ -3,10 +3,10 @@
 #include <pthread.h>
 #include "../library.h"
 
-static int call(enum it_call number, pthread_spinlock_t *lock)
+static int lock_call(enum it_call number, pthread_spinlock_t *lock)
 {
-    int answer = it_ordered_call(number, it_number_or_end(IT_MUTEX, (void *)lock), 0);
-    return answer == -IT_EDEADLK ? EDEADLK : -answer;
+    int result = it_ordered_call(number, it_number_or_end(IT_MUTEX, (void *)lock), 0);
+    return result == -IT_EDEADLK ? EDEADLK : -result;
 }
 
 IT_REPLACEABLE int pthread_spin_init(pthread_spinlock_t *lock, int shared)
@@ -17,13 +17,13 @@ IT_REPLACEABLE int pthread_spin_init(pthread_spinlock_t *lock, int shared)
 
 IT_REPLACEABLE int pthread_spin_destroy(pthread_spinlock_t *lock)
 {
-    if (call(IT_CALL_TRYLOCK, lock) != 0)
+    if (lock_call(IT_CALL_TRYLOCK, lock) != 0)
         return EBUSY;
-    call(IT_CALL_UNLOCK, lock);
-    it_forget(IT_MUTEX, (void *)lock);
+    lock_call(IT_CALL_UNLOCK, lock);
+    it_free_number(IT_MUTEX, (void *)lock);
     return 0;
 }
 
-IT_GIVES(int, pthread_spin_lock, (pthread_spinlock_t *lock), call(IT_CALL_LOCK, lock))
-IT_GIVES(int, pthread_spin_trylock, (pthread_spinlock_t *lock), call(IT_CALL_TRYLOCK, lock))
-IT_GIVES(int, pthread_spin_unlock, (pthread_spinlock_t *lock), call(IT_CALL_UNLOCK, lock))
+IT_RETURNS(int, pthread_spin_lock, (pthread_spinlock_t *lock), lock_call(IT_CALL_LOCK, lock))
+IT_RETURNS(int, pthread_spin_trylock, (pthread_spinlock_t *lock), lock_call(IT_CALL_TRYLOCK, lock))
+IT_RETURNS(int, pthread_spin_unlock, (pthread_spinlock_t *lock), lock_call(IT_CALL_UNLOCK, lock))

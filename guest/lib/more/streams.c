@@ -9,7 +9,7 @@
 /* How often the thread has locked each stream that it holds. */
 static _Thread_local unsigned locked[IT_OBJECTS];
 
-static int lock_by(enum it_call call, FILE *stream)
+static int lock_with(enum it_call call, FILE *stream)
 {
     unsigned number = it_number_or_end(IT_MUTEX, stream);
     if (!locked[number] && it_ordered_call(call, number, 0) != 0)
@@ -20,10 +20,10 @@ static int lock_by(enum it_call call, FILE *stream)
 
 IT_REPLACEABLE void flockfile(FILE *stream)
 {
-    lock_by(IT_CALL_LOCK, stream);
+    lock_with(IT_CALL_LOCK, stream);
 }
 
-IT_GIVES(int, ftrylockfile, (FILE *stream), lock_by(IT_CALL_TRYLOCK, stream))
+IT_RETURNS(int, ftrylockfile, (FILE *stream), lock_with(IT_CALL_TRYLOCK, stream))
 
 IT_REPLACEABLE void funlockfile(FILE *stream)
 {
@@ -66,4 +66,4 @@ IT_REPLACEABLE int getw(FILE *stream)
     return fread(&word, sizeof word, 1, stream) == 1 ? word : EOF;
 }
 
-IT_GIVES(int, putw, (int word, FILE *stream), fwrite(&word, sizeof word, 1, stream) == 1 ? 0 : EOF)
+IT_RETURNS(int, putw, (int word, FILE *stream), fwrite(&word, sizeof word, 1, stream) == 1 ? 0 : EOF)

@@ -67,7 +67,7 @@ IT_REPLACEABLE long sysconf(int name)
     case _SC_THREAD_STACK_MIN:
         return PTHREAD_STACK_MIN;
     case _SC_SEM_NSEMS_MAX:
-        return IT_FOR_PROGRAMS;
+        return IT_PROGRAM_OBJECTS;
     case _SC_SEM_VALUE_MAX:
         return SEM_VALUE_MAX;
     case _SC_SIGQUEUE_MAX:
@@ -97,11 +97,11 @@ IT_REPLACEABLE long sysconf(int name)
 
 /* ---------------------------------------------------------------------------------------------- who it is ---- */
 
-IT_GIVES(pid_t, getpid, (void), PROCESS)
-IT_GIVES(pid_t, getppid, (void), PARENT)
-IT_GIVES(pid_t, getpgrp, (void), PROCESS)
+IT_RETURNS(pid_t, getpid, (void), PROCESS)
+IT_RETURNS(pid_t, getppid, (void), PARENT)
+IT_RETURNS(pid_t, getpgrp, (void), PROCESS)
 
-static pid_t of_process(pid_t process)
+static pid_t own_process(pid_t process)
 {
     if (process == 0 || process == PROCESS)
         return PROCESS;
@@ -109,28 +109,28 @@ static pid_t of_process(pid_t process)
     return -1;
 }
 
-IT_GIVES(pid_t, getpgid, (pid_t process), of_process(process))
-IT_GIVES(pid_t, getsid, (pid_t process), of_process(process))
-IT_GIVES(uid_t, getuid, (void), USER)
-IT_GIVES(uid_t, geteuid, (void), USER)
-IT_GIVES(gid_t, getgid, (void), USER)
-IT_GIVES(gid_t, getegid, (void), USER)
+IT_RETURNS(pid_t, getpgid, (pid_t process), own_process(process))
+IT_RETURNS(pid_t, getsid, (pid_t process), own_process(process))
+IT_RETURNS(uid_t, getuid, (void), USER)
+IT_RETURNS(uid_t, geteuid, (void), USER)
+IT_RETURNS(gid_t, getgid, (void), USER)
+IT_RETURNS(gid_t, getegid, (void), USER)
 
-/* Succeeds if nothing changes. In a call with two ids, -1 (`stay`) keeps the current one. */
-static int become(unsigned real, unsigned effective, unsigned stay)
+/* Succeeds if nothing changes. In a call with two ids, -1 (`unchanged`) keeps the current one. */
+static int keep_ids(unsigned real, unsigned effective, unsigned unchanged)
 {
-    if ((real == USER || real == stay) && (effective == USER || effective == stay))
+    if ((real == USER || real == unchanged) && (effective == USER || effective == unchanged))
         return 0;
     errno = EPERM;
     return -1;
 }
 
-IT_GIVES(int, setuid, (uid_t user), become(user, USER, USER))
-IT_GIVES(int, seteuid, (uid_t user), become(user, USER, USER))
-IT_GIVES(int, setgid, (gid_t group), become(group, USER, USER))
-IT_GIVES(int, setegid, (gid_t group), become(group, USER, USER))
-IT_GIVES(int, setreuid, (uid_t real, uid_t effective), become(real, effective, (uid_t)-1))
-IT_GIVES(int, setregid, (gid_t real, gid_t effective), become(real, effective, (gid_t)-1))
+IT_RETURNS(int, setuid, (uid_t user), keep_ids(user, USER, USER))
+IT_RETURNS(int, seteuid, (uid_t user), keep_ids(user, USER, USER))
+IT_RETURNS(int, setgid, (gid_t group), keep_ids(group, USER, USER))
+IT_RETURNS(int, setegid, (gid_t group), keep_ids(group, USER, USER))
+IT_RETURNS(int, setreuid, (uid_t real, uid_t effective), keep_ids(real, effective, (uid_t)-1))
+IT_RETURNS(int, setregid, (gid_t real, gid_t effective), keep_ids(real, effective, (gid_t)-1))
 
 IT_REPLACEABLE int gethostname(char *name, size_t size)
 {
@@ -149,4 +149,4 @@ IT_REPLACEABLE int uname(struct utsname *name)
     return 0;
 }
 
-IT_GIVES(int, getdtablesize, (void), (int)sysconf(_SC_OPEN_MAX))
+IT_RETURNS(int, getdtablesize, (void), (int)sysconf(_SC_OPEN_MAX))

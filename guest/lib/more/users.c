@@ -5,15 +5,15 @@
 #include <unistd.h>
 #include "../library.h"
 
-static char name[] = "user", nothing[] = "", home[] = "/", shell[] = "/bin/sh", *members[] = { NULL };
+static char name[] = "user", empty[] = "", home[] = "/", shell[] = "/bin/sh", *members[] = { NULL };
 
 IT_REPLACEABLE struct passwd *getpwuid(uid_t user)
 {
     static struct passwd entry;
     if (user != getuid())
         return NULL;
-    entry = (struct passwd) { .pw_name = name, .pw_passwd = nothing, .pw_uid = user, .pw_gid = getgid(),
-                              .pw_gecos = nothing, .pw_dir = home, .pw_shell = shell };
+    entry = (struct passwd) { .pw_name = name, .pw_passwd = empty, .pw_uid = user, .pw_gid = getgid(),
+                              .pw_gecos = empty, .pw_dir = home, .pw_shell = shell };
     return &entry;
 }
 
@@ -27,7 +27,7 @@ IT_REPLACEABLE struct group *getgrgid(gid_t group)
     static struct group entry;
     if (group != getgid())
         return NULL;
-    entry = (struct group) { .gr_name = name, .gr_passwd = nothing, .gr_gid = group, .gr_mem = members };
+    entry = (struct group) { .gr_name = name, .gr_passwd = empty, .gr_gid = group, .gr_mem = members };
     return &entry;
 }
 
@@ -44,36 +44,36 @@ IT_REPLACEABLE char *getlogin(void)
 /* ---------------------------------------------------------------------------------------------- the list of all ---- */
 
 /* A list of one. */
-#define LIST(told, get, set, end, type, one)                                                                           \
-    static int told;                                                                                                   \
+#define LIST(returned, get, set, end, type, one)                                                                       \
+    static int returned;                                                                                               \
     IT_REPLACEABLE void set(void)                                                                                      \
     {                                                                                                                  \
-        told = 0;                                                                                                      \
+        returned = 0;                                                                                                  \
     }                                                                                                                  \
     IT_REPLACEABLE void end(void)                                                                                      \
     {                                                                                                                  \
-        told = 0;                                                                                                      \
+        returned = 0;                                                                                                  \
     }                                                                                                                  \
-    IT_GIVES(type *, get, (void), told++ ? NULL : one)
+    IT_RETURNS(type *, get, (void), returned++ ? NULL : one)
 
-LIST(user_told, getpwent, setpwent, endpwent, struct passwd, getpwuid(getuid()))
-LIST(group_told, getgrent, setgrent, endgrent, struct group, getgrgid(getgid()))
+LIST(user_returned, getpwent, setpwent, endpwent, struct passwd, getpwuid(getuid()))
+LIST(group_returned, getgrent, setgrent, endgrent, struct group, getgrgid(getgid()))
 
 /* ------------------------------------------------------------------------------------------ entries of the caller ---- */
 
 /* The texts are constants, so that nothing is kept in the caller's memory but the entry. */
-#define BY_VALUE(function, type, key, by)                                                                              \
+#define REENTRANT(function, type, key, lookup)                                                                         \
     IT_REPLACEABLE int function(key, type *entry, char *memory, size_t size, type **found)                             \
     {                                                                                                                  \
         (void)memory, (void)size;                                                                                      \
-        const type *one = by;                                                                                          \
+        const type *one = lookup;                                                                                      \
         if (one)                                                                                                       \
             *entry = *one;                                                                                             \
         *found = one ? entry : NULL;                                                                                   \
         return 0;                                                                                                      \
     }
 
-BY_VALUE(getpwuid_r, struct passwd, uid_t wanted, getpwuid(wanted))
-BY_VALUE(getpwnam_r, struct passwd, const char *wanted, getpwnam(wanted))
-BY_VALUE(getgrgid_r, struct group, gid_t wanted, getgrgid(wanted))
-BY_VALUE(getgrnam_r, struct group, const char *wanted, getgrnam(wanted))
+REENTRANT(getpwuid_r, struct passwd, uid_t wanted, getpwuid(wanted))
+REENTRANT(getpwnam_r, struct passwd, const char *wanted, getpwnam(wanted))
+REENTRANT(getgrgid_r, struct group, gid_t wanted, getgrgid(wanted))
+REENTRANT(getgrnam_r, struct group, const char *wanted, getgrnam(wanted))

@@ -5,7 +5,7 @@
 
 _Thread_local int it_countdown = IT_YIELD_EVERY;
 
-__attribute__((used)) static void over(void)
+__attribute__((used)) static void yield_at_zero(void)
 {
     it_call(IT_CALL_YIELD, 0, 0);
 }
@@ -18,7 +18,7 @@ __asm__(".section .text.it_countdown_over,\"ax\",@progbits\n"
         "sw ra, 0(sp)\n\tsw t0, 4(sp)\n\tsw t1, 8(sp)\n\tsw t2, 12(sp)\n\tsw t3, 16(sp)\n\tsw t4, 20(sp)\n\t"
         "sw a0, 24(sp)\n\tsw a1, 28(sp)\n\tsw a2, 32(sp)\n\tsw a3, 36(sp)\n\tsw a4, 40(sp)\n\tsw a5, 44(sp)\n\t"
         "sw a6, 48(sp)\n\tsw a7, 52(sp)\n\tsw t5, 56(sp)\n\t"
-        "call over\n\t"
+        "call yield_at_zero\n\t"
         "lw ra, 0(sp)\n\tlw t0, 4(sp)\n\tlw t1, 8(sp)\n\tlw t2, 12(sp)\n\tlw t3, 16(sp)\n\tlw t4, 20(sp)\n\t"
         "lw a0, 24(sp)\n\tlw a1, 28(sp)\n\tlw a2, 32(sp)\n\tlw a3, 36(sp)\n\tlw a4, 40(sp)\n\tlw a5, 44(sp)\n\t"
         "lw a6, 48(sp)\n\tlw a7, 52(sp)\n\tlw t5, 56(sp)\n\t"
