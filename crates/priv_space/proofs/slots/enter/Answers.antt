@@ -4,6 +4,12 @@ use Rattle.priv_space.specs.Changes.{EntersPage}
 use Rattle.priv_space.proofs.Held.{put-touched, change-put}
 use Rattle.priv_space.proofs.slots.enter.Goals as goal
 
+pub invariant_of-slots-2 : goal.invariant_of-slots-2
+invariant_of-slots-2 c =
+    let p = put-touched c.enter.new.self c.slots.inside.places c.slots.view_is c.deref_mut.ensures.value
+    c.in-Ok.ensures c.requires c.index_mut.ensures.value (omega arith) in
+    p.each
+
 pub returns-clause-entered : goal.returns-clause-entered
 returns-clause-entered c entered =
     let p = put-touched c.enter.new.self c.slots.inside.places c.slots.view_is c.deref_mut.ensures.value

@@ -11,6 +11,12 @@ store-requires-clause-share c =
     c.in_ok-place.ensures c.requires.within.slot c.index_mut.ensures.value (omega arith) in
     shared-put c.args.view.now p c.requires.over
 
+pub invariant_of-slots-2 : goal.invariant_of-slots-2
+invariant_of-slots-2 c =
+    let p = put-touched c.store.new.self c.slots.inside.places c.slots.view_is c.deref_mut.ensures.value
+    c.in_ok-place.ensures c.requires.within.slot c.index_mut.ensures.value (omega arith) in
+    p.each
+
 pub returns : goal.returns
 returns c =
     let p = put-touched c.store.new.self c.slots.inside.places c.slots.view_is c.deref_mut.ensures.value
