@@ -4,6 +4,7 @@ use Rattle.std.proofs.lemmas.Bool.{cases_eq, cases_lt}
 use Rattle.std.proofs.lemmas.List.{get_or-map, get_or-set_same, get_or-set_other, get_or_append_left, get_or_past, get_or_default, set-get_or, ext_get_or, length-map, length-set, length-append, with_items_is}
 use Rattle.std.proofs.Math.Seq.{get_or-append_seam}
 use Rattle.std.specs.Vec.{with_items}
+use Rattle.std.specs.declared.alloc.AllocError.{AllocError}
 use Rattle.memory_spec.specs.Pages.{Memory, page_of}
 use Rattle.priv_space.specs.declared.slot.Slot.{Slot}
 use Rattle.priv_space.specs.declared.slot.Access.{Access}
@@ -276,6 +277,14 @@ pub put-touched :
 put-touched {old = old} {places = places} s v was seen placed within x_is fits =
     put-slot s (placed.same ∙ ap (λ p. all_held p old) seen ∙ was) placed.each within placed.place.0 x_is
     (with_items_is v places fits) (λ free. absurd (omega (arith, placed.place.1)))
+
+-- the places after a search for one, whether it succeeded or not, are such ones
+pub placed-held :
+    {X : Type 0} {old held : List Slot} {listed before places : List ℕ} {i : ℕ} {r : Result ℕ AllocError} (v : Vec ℕ X)
+    → PlacesSlot i listed before places old held r → length places ≡ v.len
+    → IsHeld listed (with_items v places).items held
+placed-held {held = held} {listed = listed} {places = places} v placed fits =
+    subst (λ q. IsHeld listed q held) (sym (with_items_is v places fits)) placed.each
 
 -- the slot before the change shares the view's page, as each slot does
 pub shared-put :

@@ -2,8 +2,16 @@
 use Rattle.std.proofs.Common.{arith}
 use Rattle.memory_spec.specs.Pages.{page_of}
 use Rattle.priv_space.specs.Changes.{any, TakesNumber}
-use Rattle.priv_space.proofs.Held.{put-touched, shared-put, change-put}
+use Rattle.priv_space.proofs.Held.{placed-held, put-touched, shared-put, change-put}
 use Rattle.priv_space.proofs.slots.fetch.Goals as goal
+
+pub invariant_of-slots : goal.invariant_of-slots
+invariant_of-slots c = placed-held c.slots.inside.places c.place_for.ensures (omega arith)
+
+pub index_mut-requires : goal.index_mut-requires
+index_mut-requires c =
+    let placed = c.in_ok-place.ensures in
+    omega (arith, placed.place, placed.each.inside c.args.access.slot)
 
 pub fetch-requires-clause-share : goal.fetch-requires-clause-share
 fetch-requires-clause-share c =

@@ -2,8 +2,16 @@
 use Rattle.std.proofs.Common.{arith}
 use Rattle.memory_spec.specs.Pages.{page_of, allows, read_right}
 use Rattle.priv_space.specs.Changes.{TakesNumber}
-use Rattle.priv_space.proofs.Held.{put-touched, shared-put, outcome-put}
+use Rattle.priv_space.proofs.Held.{placed-held, put-touched, shared-put, outcome-put}
 use Rattle.priv_space.proofs.slots.take.Goals as goal
+
+pub invariant_of-slots : goal.invariant_of-slots
+invariant_of-slots c = placed-held c.slots.inside.places c.place_for.ensures (omega arith)
+
+pub index_mut-requires : goal.index_mut-requires
+index_mut-requires c =
+    let placed = c.in_ok-place.ensures in
+    omega (arith, placed.place, placed.each.inside c.args.access.slot)
 
 pub take-requires-clause-share : goal.take-requires-clause-share
 take-requires-clause-share c =
