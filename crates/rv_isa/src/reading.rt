@@ -255,7 +255,6 @@ fn system(w: u32) -> Option<Instr>
 /// Words of other extensions are `None`: FENCE.I, the CSR instructions, a shift whose word has bit 25, and words of
 /// 16 bits.
 #[inline(always)]
-#[tactic(auto, unfolding(isa_spec::specs::Table::decoded, isa_spec::specs::Table::reading_of), using(isa_spec::proofs::WordOf::decoded_in_range))]
 pub fn decode(w: u32) -> Option<Instr>
     ensures word { result ≡ decoded w }
     ensures in_range { IfSome result InRange }
