@@ -8,6 +8,9 @@ use Rattle.machine_calls.proofs.performing.wake.Given as goal
 abbrev pub invariant-loop-i : goal.invariant-loop-i
 invariant-loop-i g l =
     let pages = g.V.View.pages in
-    (woken (pages l.memory) l.reported (drop l.i l.threads) l.harts ≡ woken (pages l.memory) l.reported l.threads l.fn.harts)
-    × (AreViewsOf pages (pages l.memory) l.views.items)
-    × (vec_len l.fn.views ≤ vec_len l.views + l.i)
+    record {
+      harts : woken (pages l.memory) l.reported (drop l.i l.threads) l.harts
+          ≡ woken (pages l.memory) l.reported l.threads l.fn.harts;
+      views : AreViewsOf pages (pages l.memory) l.views.items;
+      count : vec_len l.fn.views ≤ vec_len l.views + l.i;
+    }
