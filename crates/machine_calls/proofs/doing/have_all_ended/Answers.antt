@@ -1,0 +1,23 @@
+-- What is left to prove of `have_all_ended`.
+use Rattle.std.proofs.Common.{◌≡◌, ◌<◌, ◌+◌, ℕ, Bool, true, List, drop, length, get_or, sym, ap, ◌∙◌, arith, rules}
+use Rattle.std.specs.Prelude.{◌&&◌}
+use Rattle.std.specs.List.{list_all}
+use Rattle.std.proofs.lemmas.List.{at_drop_more}
+use Rattle.machine_spec.specs.Machine.{Hart, is_ended}
+use Rattle.machine_calls.proofs.doing.have_all_ended.Goals as goal
+
+-- a hart that decides nothing can be left out
+left_out :
+    (decides : Hart → Bool) (harts : List Hart) (i : ℕ) (h : Hart) → i < length harts → h ≡ get_or harts i h
+    → decides h ≡ true → list_all decides (drop (i + 1) harts) ≡ list_all decides (drop i harts)
+left_out decides harts i h lt at none =
+    sym
+    (at_drop_more (list_all decides) harts i h lt
+    ∙ ap (λ b. b && list_all decides (drop (i + 1) harts)) (ap decides (sym at) ∙ none))
+
+pub loop-hart-preserved : goal.loop-hart-preserved
+loop-hart-preserved g c =
+    let lt : c.loop-hart.hart-index < length c.args.harts.now = omega arith in
+    let none : is_ended c.hart-item.result.status ≡ true = search rules in
+    left_out (λ (h : Hart). is_ended h.status) c.args.harts.now c.loop-hart.hart-index c.hart-item.result lt c.hart-item.is none
+    ∙ c.loop-hart.invariant
