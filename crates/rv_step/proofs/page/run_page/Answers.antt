@@ -1,10 +1,40 @@
 -- Answers to the goals that the check of `run_page` leaves open.
-use Rattle.std.proofs.Common.{◌≡◌, ◌+◌, ◌-◌, ◌<◌, refl, arith}
-use Rattle.isa_spec.specs.Registers.{with_pc}
-use Rattle.rv_step.specs.Paging.{at_word, instr_placed}
+use Rattle.std.proofs.Common.{◌≡◌, ◌+◌, ◌-◌, ◌/◌, ◌%◌, ◌^◌, ◌<◌, ℕ, refl, ap, ◌∙◌, arith}
+use Rattle.isa_spec.specs.Registers.{Registers, with_pc}
+use Rattle.memory_spec.specs.Workspace.{Workspace}
+use Rattle.rv_step.specs.Step.{Follow}
+use Rattle.rv_step.specs.Paging.{at_word, instr_placed, word_at}
 use Rattle.rv_step.proofs.Pages.{placed-within, placed-more}
 use Rattle.rv_step.proofs.Zero.{executes-zero}
 use Rattle.rv_step.proofs.page.run_page.Goals as goal
+
+-- where nothing happened, the turns before it were made
+stand :
+    (made count : ℕ) (first w after : Workspace) (start r left : Registers)
+    → count ≡ made → after ≡ w → left ≡ r → Follow made first start w r → Follow count first start after left
+stand made count first w after start r left counted same is follow = rw (counted, same, is) follow
+
+-- the word at the pc, in the page that has it
+word_at-pc : (pc number : ℕ) → pc < 2 ^ 32 → pc / 4096 ≡ number → pc % 4 ≡ 0 → word_at number (pc % 4096 / 4) ≡ pc
+word_at-pc pc number fits here aligned = omega arith
+
+none-ahead : (pc : ℕ) → 1024 - pc % 4096 / 4 + pc % 4096 / 4 - 1024 ≡ 0
+none-ahead pc = omega arith
+
+pub turns-init : goal.turns-init
+turns-init g c =
+    let is = c.pc.ensures.value in
+    let none = none-ahead c.pc.result in
+    let here = word_at-pc c.pc.result c.args.page.now.number (rw is (omega arith)) (rw is c.requires.here) (rw is c.requires.aligned) in
+    record {
+      within = omega arith;
+      some = omega arith;
+      few = omega arith;
+      counted = refl;
+      zero = c.pc.ensures.zero;
+      runs = c.requires.runs;
+      follow = rw none (refl, ap (with_pc c.args.regs.now) (here ∙ is));
+    }
 
 pub turns-preserved-in-Ok-Next : goal.turns-preserved-in-Ok-Next
 turns-preserved-in-Ok-Next g c =
@@ -114,3 +144,32 @@ returns-in-Ok-Changed-clause-turns g c =
     (g.M.Mem.workspace c.args.mem.now) w after c.args.regs.now c.turns.regs registers here.code here.operation
     here.number here.index c.turns.invariant.runs c.turns.invariant.zero c.turns.invariant.follow within
     (omega arith) led)
+
+pub returns-in-Ok-Other : goal.returns-in-Ok-Other
+returns-in-Ok-Other g c =
+    let led = rw c.in-Ok-Other.field-0-is at c.in-Ok-Other.ensures.ok in
+    record {
+      turns = stand _ _ _ _ _ _ _ _ (omega arith) led.0
+          (rw (c.leave-in-Ok-Other.ensures.registers, c.address_of-pc-in-Ok-Other.ensures, c.operation_at-placed.ensures.number, led.1) refl)
+          c.turns.invariant.follow;
+      few = omega arith;
+      cost = omega arith;
+      never_lower = omega arith;
+      err = tt;
+      jumped = λ jumped. cc (jumped, c.leave-in-Ok-Other.ensures.end);
+    }
+
+pub returns-in-Err : goal.returns-in-Err
+returns-in-Err g c =
+    let kept = c.in-Err.ensures.err in
+    let follow = stand _ (c.turns.ahead + c.turns.index - 1024) _ _ _ _ _ _ refl kept.1
+    (rw (c.fail.ensures.registers, c.address_of-pc-in-Err.ensures, c.operation_at-placed.ensures.number, kept.0) refl)
+    c.turns.invariant.follow in
+    record {
+      turns = tt;
+      few = tt;
+      cost = tt;
+      never_lower = omega arith;
+      err = (c.turns.ahead + c.turns.index - 1024, omega arith, omega arith, follow);
+      jumped = tt;
+    }
