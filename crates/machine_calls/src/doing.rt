@@ -168,8 +168,8 @@ pub struct Acted {
 ///
 /// # Errors
 ///
-/// An error if the host's memory ran out, and only if there was no room for another hart, or fewer views were made
-/// ahead than can be given.
+/// An error if the host's memory ran out or no further view can be made, and only if there was no room for another
+/// hart, or fewer views were made ahead than can be given.
 #[tactic(auto, using(crate::proofs::Asking::exists, crate::proofs::Asking::free, crate::proofs::Asking::below))]
 pub fn do_as_asked<V: View>(
     harts: &mut Vec<Hart<V>>,

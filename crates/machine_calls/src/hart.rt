@@ -137,7 +137,7 @@ impl<V: View> Hart<V> {
 ///
 /// # Errors
 ///
-/// An error if the host's memory ran out.
+/// An error if the host's memory ran out, or `memory` has as many holders as can be counted.
 pub fn first_harts<V: View>(
     alloc: Global,
     memory: &V,

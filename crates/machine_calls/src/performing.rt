@@ -132,8 +132,8 @@ fn begin<V: View>(
 ///
 /// # Errors
 ///
-/// An error if the host's memory ran out, and only if there was no room for another hart, or fewer views were made
-/// ahead than are given.
+/// An error if the host's memory ran out or no further view can be made, and only if there was no room for another
+/// hart, or fewer views were made ahead than are given.
 pub(super) fn settle<V: View>(
     harts: &mut Vec<Hart<V>>,
     memory: &V,

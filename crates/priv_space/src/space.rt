@@ -194,7 +194,7 @@ impl Space {
     ///
     /// # Errors
     ///
-    /// An error if the host's memory ran out.
+    /// An error if the host's memory ran out, or the table or the map has as many holders as can be counted.
     pub fn new(
         alloc: Global,
         view: &Arc<PageTable>,
