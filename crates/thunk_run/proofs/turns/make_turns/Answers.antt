@@ -1,6 +1,5 @@
 -- Answers to the goals that the check of `make_turns` leaves open.
 use Rattle.std.proofs.Common.{◌≡◌, ℕ, ◌+◌, ◌-◌, ◌<◌, ◌≤◌, ◌⊎◌, Bool, true, false, ◌∙◌, sym, inl, inr, arith}
-use Rattle.std.proofs.lemmas.Result.{err_from_is_err_and}
 use Rattle.thunk_run.proofs.Leaving.{turns-next, turns-call, turns-trap}
 use Rattle.thunk_run.proofs.Entering.{turn-view, left-more}
 use Rattle.thunk_run.specs.TurnsOutcome.{left_after}
@@ -88,16 +87,3 @@ returns-in-Trap-clause-left g c =
     ∙ left-more fuel c.loop-count.count more (g.M.Mem.workspace c.loop-count.mem) w c.loop-count.regs
     c.run_pages.new.regs (left_after fuel (g.M.Mem.workspace c.args.mem.now) c.args.regs.now)
     (c.in_ok-count.ensures.left (fuel - c.loop-count.count) (omega arith)) c.loop-count.invariant.left)
-
--- a call that failed has not lowered the counter
-pub returns-in_err-count : goal.returns-in_err-count
-returns-in_err-count g c =
-    let failed = err_from_is_err_and c.from_residual-in_err-count.result c.from_residual-in_err-count.ensures.1 in
-    let never_lower = c.run_pages.ensures.never_lower in
-    rw failed.1 record { cost = tt; never_lower = omega (arith, never_lower); left = tt }
-
-pub returns-in_err-step : goal.returns-in_err-step
-returns-in_err-step g c =
-    let failed = err_from_is_err_and c.from_residual-in_err-step.result c.from_residual-in_err-step.ensures.1 in
-    let never_lower = c.run_pages.ensures.never_lower in
-    rw failed.1 record { cost = tt; never_lower = omega (arith, never_lower, c.step.ensures.count); left = tt }
