@@ -1,5 +1,5 @@
 -- A round after an entry was appended.
-use Rattle.std.proofs.Common.{◌≡◌, ◌<◌, ◌≤◌, ◌+◌, ℕ, Bool, true, false, not, ◌||◌, List, [], ◌∷◌, ◌++◌, length, set, Option, Vec, Some, is_some, refl, ap, ap₂, sym, ◌∙◌, subst, arith}
+use Rattle.std.proofs.Common.{◌≡◌, ◌<◌, ◌≤◌, ◌+◌, ℕ, Bool, true, false, not, cond, ◌||◌, Result, Ok, Err, is_ok, IsErr, OnOk, OnErr, List, [], ◌∷◌, ◌++◌, length, set, Option, Box, Vec, Some, is_some, refl, ap, ap₂, sym, ◌∙◌, subst, arith}
 use Rattle.std.proofs.lemmas.Bool.{and_parts}
 use Rattle.std.proofs.lemmas.List.{length-append, get_or-set_same, set-set}
 use Rattle.std.specs.Global.{Global}
@@ -15,15 +15,15 @@ use Rattle.round_spec.specs.Marks.{record_for, fits_next}
 use Rattle.round_spec.specs.Rounds.{RoundState, can_begin, can_take, can_reuse, happens, is_finished, is_in_flight, taken, taken_when, given_back}
 use Rattle.round_spec.proofs.Conditions.{happens-take, happens-take_not, happens-reuse, happens-give_back, commit-applies}
 use Rattle.round_spec.proofs.Happening.{CanBegin, can_begin-parts, happens-kept}
-use Rattle.propagate.specs.Consistency.{IsConsistent, KnowsEnough}
+use Rattle.propagate.specs.Consistency.{IsConsistent, IsFound, KnowsEnough}
 use Rattle.propagate.specs.Alike.{IsAsBefore}
 use Rattle.propagate.specs.declared.versions.Versions.{Versions}
-use Rattle.propagate.specs.Versions.{AreRight}
+use Rattle.propagate.specs.Versions.{AreRight, unboxed}
 use Rattle.propagate.specs.Committing.{CanCommit, Continues, picked_at}
-use Rattle.propagate.proofs.Keeping.{valid_consistent, valid-happens, kept-happens, kept-more, applied-round, knows-in_flight}
+use Rattle.propagate.proofs.Keeping.{valid_consistent, valid-happens, kept-happens, kept-more, kept-found, applied-round, knows-in_flight}
 use Rattle.propagate.proofs.Mapped.{happens-on_map}
 use Rattle.propagate.proofs.Alike.{as-before-same}
-use Rattle.propagate.proofs.KnownPages.{right-same}
+use Rattle.propagate.proofs.KnownPages.{right-same, right-either}
 use Rattle.propagate.proofs.Appending.{CanAppend, fitting-append, Reusable, reusable, going-none, can-apply, reuse-can, below-32, take-ready}
 
 -- a round with one more entry, its record and when it was picked
@@ -43,6 +43,16 @@ handed_in w r =
       in_flight = set w.in_flight r.thread false;
       taken_at = set w.taken_at r.thread 0;
     }
+
+-- it is what was made of a round, part by part
+pub appended-from :
+    (w : RoundState) (r : Record) (reused : Bool) (m : Machine) (es : List Entry) (rs : List Record) (room ps : List ℕ)
+    (point : ℕ)
+    → m ≡ apply w.machine r → es ≡ w.schedule ++ record { thread = r.thread; reused = reused } ∷ []
+    → rs ≡ w.records ++ r ∷ [] → room ≡ w.picked → ps ≡ room ++ point ∷ []
+    → record w { machine = m; schedule = es; records = rs; picked = ps } ≡ appended w r reused point
+appended-from w r reused m es rs room ps point machine schedule records same picked =
+    rw (machine, schedule, records, picked, same) refl
 
 -- an executed step that can be committed
 
@@ -85,6 +95,22 @@ executed_in w r =
       in_flight = set w.in_flight r.thread false;
       taken_at = set w.taken_at r.thread 0;
     }
+
+pub executed-from :
+    (w : RoundState) (r : Record) (m : Machine) (es : List Entry) (rs : List Record) (room ps : List ℕ) (t point : ℕ)
+    → m ≡ apply w.machine r → es ≡ w.schedule ++ record { thread = r.thread; reused = false } ∷ []
+    → rs ≡ w.records ++ r ∷ [] → room ≡ w.picked → ps ≡ room ++ point ∷ []
+    → t ≡ r.thread → point ≡ picked_at w r.thread
+    → record w {
+      machine = m;
+      schedule = es;
+      records = rs;
+      picked = ps;
+      in_flight = set w.in_flight t false;
+      taken_at = set w.taken_at t 0;
+    } ≡ executed_in w r
+executed-from w r m es rs room ps t point machine schedule records same picked thread when =
+    rw (machine, schedule, records, picked, same, thread, when) refl
 
 begun-handed_in :
     (w : RoundState) (frame : Frame) (r : Record)
@@ -237,3 +263,50 @@ goes-more v w u e setup past more is =
         ap (λ (x : RoundState). length x.schedule) is,
       );
     }
+
+-- ---- where memory ran out
+
+-- a round as before, with the same facts
+pub kept-alike :
+    (w v : RoundState) (i : ℕ) (fs gs : Option (List Fact)) (b : Option (Vec Bool Global)) (vs : Option Versions)
+    → IsConsistent w i fs b vs → v ≡ w → gs ≡ fs → IsConsistent v i gs b vs
+kept-alike w v i fs gs b vs kept is same =
+    subst (λ (x : RoundState). IsConsistent x i gs b vs) (sym is)
+    (subst (λ (facts : Option (List Fact)). IsConsistent w i facts b vs) (sym same) kept)
+
+-- the same after the facts were found
+pub found-alike :
+    (w v : RoundState) (i : ℕ) (fs gs : Option (List Fact)) (b : Option (Vec Bool Global)) (vs : Option Versions)
+    (needed : Bool)
+    → IsConsistent w i fs b vs → v ≡ w → IsFound needed w.past fs gs → IsConsistent v i gs b vs
+found-alike w v i fs gs b vs needed kept is found =
+    subst (λ (x : RoundState). IsConsistent x i gs b vs) (sym is) (kept-found w i fs gs b vs needed kept found)
+
+-- what is said of a success isn't said of a failure
+pub unless_ok : {T E : Type 0} (r : Result T E) (P : Type 0) → IsErr r → OnOk r P
+unless_ok (Ok x) P failed = absurd (cc)
+unless_ok (Err e) P failed = tt
+
+pub on_err : {T E : Type 0} (r : Result T E) (P : Type 0) → P → OnErr r P
+on_err (Ok x) P p = tt
+on_err (Err e) P p = p
+
+pub goes-no_further :
+    {T E : Type 0} (r : Result T E) (v w : RoundState) → IsErr r → v ≡ w → Continues (cond (is_ok r) 1 0) w v
+goes-no_further (Ok x) v w failed is = absurd (cc)
+goes-no_further (Err e) v w failed is = goes-nowhere v w is
+
+-- ---- what more there is after an entry was appended
+
+-- the versions that are known, or else the fresh ones
+pub right-known :
+    (w : RoundState) (vs moved fresh known : Option (Box Versions Global))
+    → AreRight w (unboxed vs) → moved ≡ vs → AreRight w (unboxed fresh) → known ≡ cond (is_some moved) moved fresh
+    → AreRight w (unboxed known)
+right-known w vs moved fresh known right is_moved new is_known =
+    subst (λ o. AreRight w (unboxed o)) (sym is_known)
+    (right-either w (is_some moved) moved fresh (subst (λ o. AreRight w (unboxed o)) (sym is_moved) right) new)
+
+-- one more entry is within the most
+pub next-fits : (now records entries : ℕ) → records < 65536 → records ≡ entries → now ≡ entries → now + 1 ≤ 65536
+next-fits now records entries few same is = omega arith

@@ -102,11 +102,11 @@ impl Round {
         };
         let next = self.is_next(t);
         let place = self.place(t);
+        let now = self.entries();
         let alloc = *self.schedule.allocator();
+        self.picked.reserve(1)?;
         find_facts(alloc, &self.past, &mut self.graph, !next)?;
         let fresh = self.first_versions(!next)?;
-        self.picked.reserve(1)?;
-        let now = self.entries();
         append(
             &mut self.core,
             &mut self.schedule,
@@ -199,11 +199,11 @@ impl Round {
         let picked = self.picked_at(run.rec.thread());
         let place = self.schedule.len();
         let in_place = is_in_place(&self.marks, &self.past, place, &run.rec);
+        let now = self.entries();
         let alloc = *self.schedule.allocator();
+        self.picked.reserve(1)?;
         find_facts(alloc, &self.past, &mut self.graph, !in_place)?;
         let fresh = self.first_versions(!in_place)?;
-        self.picked.reserve(1)?;
-        let now = self.entries();
         append(
             &mut self.core,
             &mut self.schedule,

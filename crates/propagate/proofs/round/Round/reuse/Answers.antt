@@ -1,5 +1,5 @@
 -- Answers to the goals that the check of `Round::reuse` leaves open.
-use Rattle.std.proofs.Common.{◌≡◌, ◌<◌, ◌+◌, ℕ, length, eqb, Bool, true, cond, Option, Some, None, Box, Vec, is_none, is_some, option_map, refl, ap, sym, subst, ◌∙◌, arith}
+use Rattle.std.proofs.Common.{◌≡◌, ◌<◌, ◌≤◌, ◌+◌, ℕ, suc, length, eqb, not, Bool, true, cond, List, [], ◌∷◌, ◌++◌, Option, Some, None, Box, Vec, is_none, is_some, option_map, refl, add-one, ap, sym, subst, ◌∙◌, arith}
 use Rattle.std.proofs.lemmas.Bool.{and_parts}
 use Rattle.std.specs.Arc.{arc_value}
 use Rattle.std.specs.Global.{Global}
@@ -12,20 +12,71 @@ use Rattle.round_spec.specs.Rounds.{RoundState, can_reuse, happens}
 use Rattle.round_spec.specs.Due.{place_in}
 use Rattle.machine_spec.specs.Step.{fits}
 use Rattle.history_spec.specs.History.{History}
+use Rattle.history_spec.specs.Facts.{Fact}
 use Rattle.propagate.specs.declared.versions.Versions.{Versions}
+use Rattle.propagate.specs.Appending.{Trail}
 use Rattle.propagate.specs.Versions.{AreRight, MayBeMadeAgain, unboxed}
 use Rattle.propagate.specs.Alike.{IsAsBefore}
-use Rattle.propagate.specs.Consistency.{KnowsEnough}
+use Rattle.propagate.specs.Consistency.{IsConsistent, IsFound, KnowsEnough}
 use Rattle.propagate.proofs.Alike.{reuse-as-before, at-place}
 use Rattle.propagate.proofs.Entries.{length-push}
-use Rattle.propagate.proofs.KnownPages.{right-either, right-there, right-reused}
-use Rattle.propagate.proofs.Keeping.{record_count, knows-reused}
+use Rattle.propagate.proofs.KnownPages.{right-same, right-there, right-reused}
+use Rattle.propagate.proofs.Keeping.{record_count, knows-reused, valid_consistent}
 use Rattle.propagate.proofs.Appending.{Reusable, reuse-can}
-use Rattle.propagate.proofs.Making.{appended, reuse-append, reuse-happens, reuse-kept, goes-more}
+use Rattle.propagate.proofs.Making.{appended, appended-from, reuse-append, reuse-happens, reuse-kept, goes-more, right-known, next-fits, kept-alike, found-alike, unless_ok, on_err, goes-no_further}
 use Rattle.propagate.proofs.round.Round.reuse.Goals as goal
+use Rattle.propagate.proofs.round.Round.reuse.Goals.{In_ok-rec-in-Some}
+
+-- what is kept after the record of a thread's next step was reused
+kept-after :
+    (w v : RoundState) (i t place now : ℕ) (next : Bool) (r : Record) (fs gs : Option (List Fact))
+    (b taken c : Option (Vec Bool Global)) (vs known : Option (Box Versions Global)) (us : Option Versions)
+    → IsConsistent w i fs b (unboxed vs)
+    → can_reuse w t ≡ true → record_for w.past w.machine t ≡ Some r
+    → v ≡ appended w r true (length w.schedule)
+    → place ≡ place_in w.past w.machine t → now ≡ length w.schedule
+    → next ≡ eqb (place_in w.past w.machine t) (length w.schedule)
+    → IsFound (not next) w.past fs gs
+    → taken ≡ b → c ≡ cond next taken None
+    → AreRight w (unboxed known) → MayBeMadeAgain (unboxed known) v.machine place r (now + 1) us
+    → IsConsistent v i gs c us
+kept-after w v i t place now next r fs gs b taken c vs known us kept can there is is_place is_now is_next found is_taken is_marks right again =
+    let fit = and_parts (is_none w.machine.ending) (fits w.machine r) (reuse-can w t r can there) in
+    let marks : cond next b None ≡ c =
+    ap (λ (m : Option (Vec Bool Global)). cond next m None) (sym is_taken) ∙ sym is_marks in
+    reuse-kept w v i t fs gs b c (unboxed vs) us r kept can there is
+    (subst (IsAsBefore v) marks
+    (reuse-as-before w v t _ r b next kept.as_before kept.in_order.whole kept.applied (record_count w kept.counted)
+    is_next there can
+    (record {
+      setup = ap (λ (x : RoundState). x.setup) is;
+      past = ap (λ (x : RoundState). x.past) is;
+      machine = ap (λ (x : RoundState). x.machine) is;
+      schedule = ap (λ (x : RoundState). x.schedule) is;
+      records = ap (λ (x : RoundState). x.records) is;
+    })))
+    (subst (λ (m : Option (Vec Bool Global)). KnowsEnough v m gs) marks
+    (knows-reused w v b fs gs next kept.knows found (ap (λ (x : RoundState). x.past) is)
+    (ap (λ (x : RoundState). x.in_flight) is)))
+    (right-reused w v place (now + 1) r (unboxed known) us right
+    (record {
+      past = ap (λ (x : RoundState). x.past) is;
+      machine = ap (λ (x : RoundState). x.machine) is;
+      entries =
+          ap (λ (x : RoundState). length x.schedule) is
+          ∙ length-push w.schedule (record { thread = r.thread; reused = true });
+      whole = kept.in_order.whole;
+      going = fit.0;
+      fit = fit.1;
+    })
+    (rw add-one (ap suc is_now))
+    (λ h same.
+    ap (slice_get h.records) (is_place ∙ ap (λ (p : Option History). place_in p w.machine t) same)
+    ∙ at-place h w.machine t r (ap (λ (p : Option History). record_for p w.machine t) (sym same) ∙ there))
+    again)
 
 -- the round before, by its parts; what holds of it; and the record that is reused
-abbrev before : goal.After-rec-2-1 → RoundState
+abbrev before : In_ok-rec-in-Some → RoundState
 before c =
     record {
       setup = c.self.inside.setup;
@@ -40,11 +91,11 @@ before c =
       stopped = c.self.inside.stopped;
     }
 
-can : (c : goal.After-rec-2-1) → can_reuse (before c) c.args.t ≡ true
+can : (c : In_ok-rec-in-Some) → can_reuse (before c) c.args.t ≡ true
 can c = subst (λ (w : RoundState). can_reuse w c.args.t ≡ true) (sym c.self.view_is) c.requires
 
 there :
-    (c : goal.After-rec-2-1)
+    (c : In_ok-rec-in-Some)
     → record_for (before c).past (before c).machine c.args.t ≡ Some (arc_value c.in_ok-rec-in-Some.rec)
 there c =
     ap (λ (w : RoundState). record_for w.past w.machine c.args.t) c.self.view_is
@@ -52,169 +103,202 @@ there c =
     ∙ ap (option_map (λ r. arc_value r.now)) c.in-Some.is
     ∙ ap (λ (r : Record). Some r) (sym c.in_ok-rec-in-Some.ensures)
 
-reusable : (c : goal.After-rec-2-1) → Reusable (before c) c.args.t (arc_value c.in_ok-rec-in-Some.rec)
+reusable : (c : In_ok-rec-in-Some) → Reusable (before c) c.args.t (arc_value c.in_ok-rec-in-Some.rec)
 reusable c =
     reuse-append (before c) c.self.inside.instructions c.args.t c.self.inside.graph c.self.inside.marks (unboxed c.self.inside.versions)
     (arc_value c.in_ok-rec-in-Some.rec) c.self.invariant (can c) (there c)
 
+-- it is as before with room for one more
+room :
+    (c : In_ok-rec-in-Some) (picked : List ℕ) → picked ≡ c.self.inside.picked.items
+    → record (before c) { picked = picked } ≡ before c
+room c picked same = ap (λ (l : List ℕ). record (before c) { picked = l }) same
+
+-- and where the entry wasn't appended
+undone :
+    (c : In_ok-rec-in-Some) (t : Trail) (picked : List ℕ)
+    → t ≡ record {
+      machine = (before c).machine;
+      schedule = (before c).schedule;
+      records = (before c).records;
+    }
+    → picked ≡ c.self.inside.picked.items
+    → record (before c) { machine = t.machine; schedule = t.schedule; records = t.records; picked = picked } ≡ before c
+undone c t picked same room_is =
+    ap (λ (x : Trail). record (before c) {
+      machine = x.machine;
+      schedule = x.schedule;
+      records = x.records;
+      picked = picked;
+    }) same
+    ∙ room c picked room_is
+
+pub invariant_of-self : goal.invariant_of-self
+invariant_of-self c =
+    let d : In_ok-rec-in-Some = (goal.at.invariant_of-self c).In_ok-rec-in-Some in
+    kept-alike (before d) _ _ _ _ _ _ c.self.invariant
+    (room d c.reserve.new.self.items c.in_err-reserve.ensures.items) refl
+
+pub returns-in_err-reserve : goal.returns-in_err-reserve
+returns-in_err-reserve c =
+    let d : In_ok-rec-in-Some = (goal.at.returns-in_err-reserve c).In_ok-rec-in-Some in
+    let is = room d c.reserve.new.self.items c.in_err-reserve.ensures.items ∙ c.self.view_is in
+    let failed = c.from_residual-in_err-reserve.ensures.0 in
+    record {
+      ok = unless_ok c.from_residual-in_err-reserve.result _ failed;
+      same = goes-no_further c.from_residual-in_err-reserve.result _ _ failed is;
+      err = on_err c.from_residual-in_err-reserve.result _ is;
+      valid = valid_consistent _ _ _ _ _ _ c.self.view_is c.self.invariant;
+    }
+
+pub invariant_of-self-in_err-find_facts : goal.invariant_of-self-in_err-find_facts
+invariant_of-self-in_err-find_facts c =
+    let d : In_ok-rec-in-Some = (goal.at.invariant_of-self-in_err-find_facts c).In_ok-rec-in-Some in
+    kept-alike (before d) _ _ _ _ _ _ c.self.invariant
+    (room d c.reserve.new.self.items c.in_ok-reserve.ensures.items) c.in_err-find_facts.ensures.err
+
+pub returns-in_err-find_facts : goal.returns-in_err-find_facts
+returns-in_err-find_facts c =
+    let d : In_ok-rec-in-Some = (goal.at.returns-in_err-find_facts c).In_ok-rec-in-Some in
+    let is = room d c.reserve.new.self.items c.in_ok-reserve.ensures.items ∙ c.self.view_is in
+    let failed = c.from_residual-in_err-find_facts.ensures.0 in
+    record {
+      ok = unless_ok c.from_residual-in_err-find_facts.result _ failed;
+      same = goes-no_further c.from_residual-in_err-find_facts.result _ _ failed is;
+      err = on_err c.from_residual-in_err-find_facts.result _ is;
+      valid = valid_consistent _ _ _ _ _ _ c.self.view_is c.self.invariant;
+    }
+
+pub invariant_of-self-2 : goal.invariant_of-self-2
+invariant_of-self-2 c =
+    let d : In_ok-rec-in-Some = (goal.at.invariant_of-self-2 c).In_ok-rec-in-Some in
+    found-alike (before d) _ _ _ _ _ _ _ c.self.invariant
+    (room d c.reserve.new.self.items c.in_ok-reserve.ensures.items) c.in_ok-find_facts.ensures.found
+
+pub invariant_of-self-in_err-fresh : goal.invariant_of-self-in_err-fresh
+invariant_of-self-in_err-fresh c =
+    let d : In_ok-rec-in-Some = (goal.at.invariant_of-self-in_err-fresh c).In_ok-rec-in-Some in
+    found-alike (before d) _ _ _ _ _ _ _ c.self.invariant
+    (room d c.reserve.new.self.items c.in_ok-reserve.ensures.items) c.in_ok-find_facts.ensures.found
+
+pub returns-in_err-fresh : goal.returns-in_err-fresh
+returns-in_err-fresh c =
+    let d : In_ok-rec-in-Some = (goal.at.returns-in_err-fresh c).In_ok-rec-in-Some in
+    let is = room d c.reserve.new.self.items c.in_ok-reserve.ensures.items ∙ c.self.view_is in
+    let failed = c.from_residual-in_err-fresh.ensures.0 in
+    record {
+      ok = unless_ok c.from_residual-in_err-fresh.result _ failed;
+      same = goes-no_further c.from_residual-in_err-fresh.result _ _ failed is;
+      err = on_err c.from_residual-in_err-fresh.result _ is;
+      valid = valid_consistent _ _ _ _ _ _ c.self.view_is c.self.invariant;
+    }
+
 pub append-requires-clause-can : goal.append-requires-clause-can
-append-requires-clause-can c = (reusable c).append.can
+append-requires-clause-can c = (reusable (goal.at.append-requires-clause-can c).In_ok-rec-in-Some).append.can
 
 pub append-requires-clause-few : goal.append-requires-clause-few
-append-requires-clause-few c = (reusable c).append.few
+append-requires-clause-few c = (reusable (goal.at.append-requires-clause-few c).In_ok-rec-in-Some).append.few
 
 pub append-requires-clause-thread : goal.append-requires-clause-thread
-append-requires-clause-thread c = (reusable c).append.thread
+append-requires-clause-thread c = (reusable (goal.at.append-requires-clause-thread c).In_ok-rec-in-Some).append.thread
 
 pub append-requires-clause-number : goal.append-requires-clause-number
-append-requires-clause-number c = (reusable c).append.number
+append-requires-clause-number c = (reusable (goal.at.append-requires-clause-number c).In_ok-rec-in-Some).append.number
 
--- the same after it was appended
-abbrev start : goal.After-drop-rec-2 → RoundState
-start c =
+pub invariant_of-self-in_err-append : goal.invariant_of-self-in_err-append
+invariant_of-self-in_err-append c =
+    let d : In_ok-rec-in-Some = (goal.at.invariant_of-self-in_err-append c).In_ok-rec-in-Some in
+    found-alike (before d) _ _ _ _ _ _ _ c.self.invariant
+    (undone d _ c.reserve.new.self.items c.in_err-append.ensures.err c.in_ok-reserve.ensures.items)
+    c.in_ok-find_facts.ensures.found
+
+pub returns-in_err-append : goal.returns-in_err-append
+returns-in_err-append c =
+    let d : In_ok-rec-in-Some = (goal.at.returns-in_err-append c).In_ok-rec-in-Some in
+    let is =
+    undone d _ c.reserve.new.self.items c.in_err-append.ensures.err c.in_ok-reserve.ensures.items ∙ c.self.view_is in
+    let failed = c.from_residual-in_err-append.ensures.0 in
     record {
-      setup = c.self.inside.setup;
-      past = option_map arc_value c.self.inside.past;
-      machine = c.self.inside.core;
-      schedule = c.self.inside.schedule.items;
-      records = c.self.inside.records;
-      picked = c.self.inside.picked.items;
-      in_flight = c.self.inside.in_flight;
-      taken_at = c.self.inside.taken_at;
-      discarded = c.self.inside.discarded;
-      stopped = c.self.inside.stopped;
+      ok = unless_ok c.from_residual-in_err-append.result _ failed;
+      same = goes-no_further c.from_residual-in_err-append.result _ _ failed is;
+      err = on_err c.from_residual-in_err-append.result _ is;
+      valid = valid_consistent _ _ _ _ _ _ c.self.view_is c.self.invariant;
     }
+
+-- how many entries there were
+now_is : (c : goal.After-drop-rec-2) → c.entries-now.result ≡ length c.self.inside.schedule.items
+now_is c = c.entries-now.ensures ∙ ap (λ (w : RoundState). length w.schedule) (sym c.self.view_is)
+
+-- the round after the record was appended
+abbrev opened : goal.After-drop-rec-2 → In_ok-rec-in-Some
+opened c = (goal.at.returns-clause-ok c).In_ok-rec-in-Some
 
 abbrev after : goal.After-drop-rec-2 → RoundState
 after c =
-    record (start c) {
+    record (before (opened c)) {
       machine = c.append.new.core;
       schedule = c.append.new.schedule.items;
       records = c.append.new.records;
       picked = c.push_reserved.new.self.items;
     }
 
-can-2 : (c : goal.After-drop-rec-2) → can_reuse (start c) c.args.t ≡ true
-can-2 c = subst (λ (w : RoundState). can_reuse w c.args.t ≡ true) (sym c.self.view_is) c.requires
-
-there-2 :
-    (c : goal.After-drop-rec-2)
-    → record_for (start c).past (start c).machine c.args.t ≡ Some (arc_value c.in_ok-rec-in-Some.rec)
-there-2 c =
-    ap (λ (w : RoundState). record_for w.past w.machine c.args.t) c.self.view_is
-    ∙ sym c.next_record.ensures
-    ∙ ap (option_map (λ r. arc_value r.now)) c.in-Some.is
-    ∙ ap (λ (r : Record). Some r) (sym c.in_ok-rec-in-Some.ensures)
-
-can-apply-2 :
-    (c : goal.After-drop-rec-2)
-    → (is_none (start c).machine.ending ≡ true) × (fits (start c).machine (arc_value c.in_ok-rec-in-Some.rec) ≡ true)
-can-apply-2 c =
-    and_parts (is_none (start c).machine.ending) (fits (start c).machine (arc_value c.in_ok-rec-in-Some.rec))
-    (reuse-can (start c) c.args.t (arc_value c.in_ok-rec-in-Some.rec) (can-2 c) (there-2 c))
-
-place-2 : (c : goal.After-drop-rec-2) → c.place-place.result ≡ place_in (start c).past (start c).machine c.args.t
-place-2 c =
-    c.place-place.ensures ∙ ap (λ (w : RoundState). place_in w.past w.machine c.args.t) (sym c.self.view_is)
-
 made :
     (c : goal.After-drop-rec-2)
-    → after c ≡ appended (start c) (arc_value c.in_ok-rec-in-Some.rec) true (length (start c).schedule)
+    → after c ≡ appended (before (opened c)) (arc_value c.in_ok-rec-in-Some.rec) true (length c.self.inside.schedule.items)
 made c =
-    rw (
-      c.in_ok-append.ensures.ok.machine,
-      c.in_ok-append.ensures.ok.schedule,
-      c.in_ok-append.ensures.ok.records,
-      c.push_reserved.ensures.items,
-      c.in_ok-reserve.ensures.items,
-      c.entries-now.ensures,
-    ) refl
+    appended-from (before (opened c)) (arc_value c.in_ok-rec-in-Some.rec) true c.append.new.core c.append.new.schedule.items
+    c.append.new.records c.reserve.new.self.items c.push_reserved.new.self.items (length c.self.inside.schedule.items)
+    c.in_ok-append.ensures.ok.machine c.in_ok-append.ensures.ok.schedule c.in_ok-append.ensures.ok.records
+    c.in_ok-reserve.ensures.items
+    (c.push_reserved.ensures.items ∙ ap (λ n. c.reserve.new.self.items ++ n ∷ []) (now_is c))
 
-pub invariant_of-self-4 : goal.invariant_of-self-4
-invariant_of-self-4 c =
-    reuse-kept (start c) (after c) c.self.inside.instructions c.args.t c.self.inside.graph c.find_facts.new.graph
-    c.self.inside.marks c.marks_if.result (unboxed c.self.inside.versions) (unboxed c.after_reuse.result) (arc_value c.in_ok-rec-in-Some.rec) c.self.invariant (can-2 c) (there-2 c)
-    (made c)
-    (subst (IsAsBefore (after c))
-    (ap (λ (m : Option (Vec Bool Global)). cond c.is_next-next.result m None) (sym c.take.ensures.value) ∙ sym c.marks_if.ensures)
-    (reuse-as-before (start c) (after c) c.args.t _ (arc_value c.in_ok-rec-in-Some.rec) c.self.inside.marks
-    c.is_next-next.result c.self.invariant.as_before c.self.invariant.in_order.whole c.self.invariant.applied
-    (record_count (start c) c.self.invariant.counted)
+pub invariant_of-self-3 : goal.invariant_of-self-3
+invariant_of-self-3 c =
+    kept-after (before (opened c)) (after c) c.self.inside.instructions c.args.t c.place-place.result c.entries-now.result
+    c.is_next-next.result (arc_value c.in_ok-rec-in-Some.rec) c.self.inside.graph c.find_facts.new.graph c.self.inside.marks
+    c.take.result c.marks_if.result c.self.inside.versions c.known_or-versions.result (unboxed c.after_reuse.result)
+    c.self.invariant (can (opened c)) (there (opened c)) (made c)
+    (c.place-place.ensures ∙ ap (λ (x : RoundState). place_in x.past x.machine c.args.t) (sym c.self.view_is)) (now_is c)
     (c.is_next-next.ensures
-    ∙ ap (λ (w : RoundState). eqb (place_in w.past w.machine c.args.t) (length w.schedule)) (sym c.self.view_is))
-    (there-2 c) (can-2 c)
-    (record {
-      setup = refl;
-      past = refl;
-      machine = ap (λ (w : RoundState). w.machine) (made c);
-      schedule = ap (λ (w : RoundState). w.schedule) (made c);
-      records = ap (λ (w : RoundState). w.records) (made c);
-    })))
-    (subst (λ (m : Option (Vec Bool Global)). KnowsEnough (after c) m c.find_facts.new.graph)
-    (ap (λ (m : Option (Vec Bool Global)). cond c.is_next-next.result m None) (sym c.take.ensures.value) ∙ sym c.marks_if.ensures)
-    (knows-reused (start c) (after c) c.self.inside.marks c.self.inside.graph c.find_facts.new.graph
-    c.is_next-next.result c.self.invariant.knows c.in_ok-find_facts.ensures.found refl refl))
-    (right-reused (start c) (after c) c.place-place.result (c.entries-now.result + 1) (arc_value c.in_ok-rec-in-Some.rec)
-    (unboxed c.known_or-versions.result) (unboxed c.after_reuse.result)
-    (subst (λ o. AreRight (start c) (unboxed o)) (sym c.known_or-versions.ensures)
-    (right-either (start c) (is_some c.take-2.result) c.take-2.result c.in_ok-fresh.fresh
-    (subst (λ o. AreRight (start c) (unboxed o)) (sym c.take-2.ensures.value) c.self.invariant.right) c.in_ok-fresh.ensures))
-    (record {
-      past = refl;
-      machine = ap (λ (w : RoundState). w.machine) (made c);
-      entries =
-          ap (λ (w : RoundState). length w.schedule) (made c)
-          ∙ length-push (start c).schedule (record { thread = (arc_value c.in_ok-rec-in-Some.rec).thread; reused = true });
-      whole = c.self.invariant.in_order.whole;
-      going = (can-apply-2 c).0;
-      fit = (can-apply-2 c).1;
-    })
-    (let now : c.entries-now.result ≡ length (start c).schedule = c.entries-now.ensures in omega arith)
-    (λ h is.
-    ap (slice_get h.records) (place-2 c ∙ ap (λ (p : Option History). place_in p (start c).machine c.args.t) is)
-    ∙ at-place h (start c).machine c.args.t (arc_value c.in_ok-rec-in-Some.rec)
-    (ap (λ (p : Option History). record_for p (start c).machine c.args.t) (sym is) ∙ there-2 c))
+    ∙ ap (λ (x : RoundState). eqb (place_in x.past x.machine c.args.t) (length x.schedule)) (sym c.self.view_is))
+    c.in_ok-find_facts.ensures.found c.take.ensures.value c.marks_if.ensures
+    (right-known (before (opened c)) c.self.inside.versions c.take-2.result c.in_ok-fresh.fresh c.known_or-versions.result
+    c.self.invariant.right c.take-2.ensures.value
+    (right-same _ (before (opened c)) (unboxed c.in_ok-fresh.fresh) c.in_ok-fresh.ensures refl refl refl)
+    c.known_or-versions.ensures)
     (subst
     (λ (r : Record).
     MayBeMadeAgain (unboxed c.known_or-versions.result) (after c).machine c.place-place.result r (c.entries-now.result + 1)
     (unboxed c.after_reuse.result))
-    c.deref.ensures c.after_reuse.ensures))
+    c.deref.ensures c.after_reuse.ensures)
 
 pub returns-clause-ok : goal.returns-clause-ok
 returns-clause-ok c =
-    reuse-happens (start c) (after c) c.self.inside.instructions c.args.t c.self.inside.graph c.self.inside.marks
-    (unboxed c.self.inside.versions) (arc_value c.in_ok-rec-in-Some.rec) c.self.invariant (can-2 c) (there-2 c) (made c)
+    reuse-happens (before (opened c)) (after c) c.self.inside.instructions c.args.t c.self.inside.graph c.self.inside.marks
+    (unboxed c.self.inside.versions) (arc_value c.in_ok-rec-in-Some.rec) c.self.invariant (can (opened c))
+    (there (opened c)) (made c)
     ∙ ap (λ (w : RoundState). happens w (Reuse c.args.t)) c.self.view_is
 
 pub returns-clause-same : goal.returns-clause-same
 returns-clause-same c =
-    goes-more (after c) (start c) c.args.self.now _ refl refl (ap (λ (w : RoundState). w.schedule) (made c)) c.self.view_is
+    goes-more (after c) (before (opened c)) c.args.self.now _ refl refl (ap (λ (w : RoundState). w.schedule) (made c))
+    c.self.view_is
 
 pub after_reuse-requires-clause-there : goal.after_reuse-requires-clause-there
 after_reuse-requires-clause-there c =
-    let w : RoundState =
-    record {
-      setup = c.self.inside.setup;
-      past = option_map arc_value c.self.inside.past;
-      machine = c.self.inside.core;
-      schedule = c.self.inside.schedule.items;
-      records = c.self.inside.records;
-      picked = c.self.inside.picked.items;
-      in_flight = c.self.inside.in_flight;
-      taken_at = c.self.inside.taken_at;
-      discarded = c.self.inside.discarded;
-      stopped = c.self.inside.stopped;
-    } in
-    let place : c.place-place.result ≡ place_in w.past w.machine c.args.t =
-    c.place-place.ensures ∙ ap (λ (x : RoundState). place_in x.past x.machine c.args.t) (sym c.self.view_is) in
-    let found : record_for w.past w.machine c.args.t ≡ Some (arc_value c.in_ok-rec-in-Some.rec) =
-    ap (λ (x : RoundState). record_for x.past x.machine c.args.t) c.self.view_is
-    ∙ sym c.next_record.ensures
-    ∙ ap (option_map (λ r. arc_value r.now)) c.in-Some.is
-    ∙ ap (λ (r : Record). Some r) (sym c.in_ok-rec-in-Some.ensures) in
-    subst (λ (k : ℕ). IfSome c.known_or-versions.result (λ (v : Box Versions Global). k < length v.value.steps.items)) (sym place)
-    (right-there w c.args.t (arc_value c.in_ok-rec-in-Some.rec) c.known_or-versions.result
-    (subst (λ o. AreRight w (unboxed o)) (sym c.known_or-versions.ensures)
-    (right-either w (is_some c.take-2.result) c.take-2.result c.in_ok-fresh.fresh
-    (subst (λ o. AreRight w (unboxed o)) (sym c.take-2.ensures.value) c.self.invariant.right) c.in_ok-fresh.ensures))
-    found)
+    let d : In_ok-rec-in-Some = (goal.at.after_reuse-requires-clause-there c).In_ok-rec-in-Some in
+    subst (λ (k : ℕ). IfSome c.known_or-versions.result (λ (v : Box Versions Global). k < length v.value.steps.items))
+    (sym (c.place-place.ensures ∙ ap (λ (x : RoundState). place_in x.past x.machine c.args.t) (sym c.self.view_is)))
+    (right-there (before d) c.args.t (arc_value c.in_ok-rec-in-Some.rec) c.known_or-versions.result
+    (right-known (before d) c.self.inside.versions c.take-2.result c.in_ok-fresh.fresh c.known_or-versions.result
+    c.self.invariant.right c.take-2.ensures.value
+    (right-same _ (before d) (unboxed c.in_ok-fresh.fresh) c.in_ok-fresh.ensures refl refl refl)
+    c.known_or-versions.ensures)
+    (there d))
+
+pub after_reuse-requires-clause-now : goal.after_reuse-requires-clause-now
+after_reuse-requires-clause-now c =
+    let d : In_ok-rec-in-Some = (goal.at.after_reuse-requires-clause-now c).In_ok-rec-in-Some in
+    next-fits c.entries-now.result (length c.self.inside.records) (length c.self.inside.schedule.items)
+    (reusable d).append.few (record_count (before d) c.self.invariant.counted)
+    (c.entries-now.ensures ∙ ap (λ (w : RoundState). length w.schedule) (sym c.self.view_is))
