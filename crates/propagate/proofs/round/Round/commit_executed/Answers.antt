@@ -11,7 +11,7 @@ use Rattle.propagate.specs.declared.versions.Versions.{Versions}
 use Rattle.propagate.specs.Appending.{Trail}
 use Rattle.propagate.specs.Committing.{CanCommit, picked_at}
 use Rattle.propagate.specs.Consistency.{IsConsistent, IsFound}
-use Rattle.propagate.specs.Alike.{MayBeMarks}
+use Rattle.propagate.specs.Alike.{IsInPlace, MayBeMarks}
 use Rattle.propagate.specs.Versions.{AreRight, MayBeMadeAnew, unboxed}
 use Rattle.propagate.proofs.Keeping.{record_count, few_entries, knows-made, valid_consistent}
 use Rattle.propagate.proofs.Making.{executed_in, executed-from, begun-goes, commit-append, commit-happens, commit-kept, goes-more, right-known, next-fits, kept-alike, found-alike, unless_ok, on_err, goes-no_further}
@@ -283,6 +283,11 @@ invariant_of-self-3 c =
     (λ (r : Record).
     MayBeMadeAnew (unboxed c.known_or-versions.result) (after c).machine r (c.entries-now.result + 1) (unboxed c.after_execution.result))
     c.deref-6.ensures c.after_execution.ensures)
+
+pub marks_after-requires : goal.marks_after-requires
+marks_after-requires c = λ on.
+    subst (λ (r : Record). IsInPlace (option_map arc_value c.self.inside.past) c.len-place.result r)
+    (c.deref-2.ensures ∙ sym c.deref-5.ensures) (c.is_in_place-in_place.ensures.place on)
 
 pub returns-clause-ok : goal.returns-clause-ok
 returns-clause-ok c =
