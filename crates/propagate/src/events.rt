@@ -136,9 +136,9 @@ impl Round {
         ensures valid { IsValid self.old }
     {
         let job = self.core.start_of(t)?;
+        let now = self.entries();
         let alloc = *self.schedule.allocator();
         find_facts(alloc, &self.past, &mut self.graph, true)?;
-        let now = self.entries();
         self.in_flight[usize::from(t)] = true;
         self.taken_at[usize::from(t)] = now;
         Ok(job)

@@ -1,15 +1,35 @@
 -- Answers to the goals that the check of `Round::take` leaves open.
-use Rattle.std.proofs.Common.{◌≡◌, true, length, set, option_map, refl, sym, subst, ◌∙◌, arith}
+use Rattle.std.proofs.Common.{◌≡◌, true, length, set, option_map, Result, Ok, Err, IfOk, IsErr, refl, ap, sym, subst, ◌∙◌, arith}
 use Rattle.std.proofs.lemmas.Grind.{common_steps}
 use Rattle.std.specs.Arc.{arc_value}
 use Rattle.round_spec.specs.declared.events.Event.TheVariants.{Take}
 use Rattle.round_spec.specs.Rounds.{RoundState, can_take, happens}
 use Rattle.round_spec.proofs.Conditions.{happens-take}
 use Rattle.propagate.proofs.Keeping.{valid_consistent, kept-happens, knows-found}
+use Rattle.propagate.proofs.Making.{goes-nowhere, kept-alike, unless_ok, on_err}
 use Rattle.propagate.proofs.Alike.{as-before-same}
 use Rattle.propagate.specs.Versions.{unboxed}
 use Rattle.propagate.proofs.KnownPages.{right-same}
 use Rattle.propagate.proofs.round.Round.take.Goals as goal
+
+-- what is said of a job isn't said of a failure
+unless_job : {T E : Type 0} (r : Result T E) (P : T → Type 0) → IsErr r → IfOk r P
+unless_job (Ok x) P failed = absurd (cc)
+unless_job (Err e) P failed = tt
+
+pub invariant_of-self : goal.invariant_of-self
+invariant_of-self c = kept-alike _ _ _ _ _ _ _ c.self.invariant refl c.in_err-find_facts.ensures.err
+
+pub returns-in_err-find_facts : goal.returns-in_err-find_facts
+returns-in_err-find_facts c =
+    let failed = c.from_residual-in_err-find_facts.ensures.0 in
+    record {
+      ok = unless_ok c.from_residual-in_err-find_facts.result _ failed;
+      job = unless_job c.from_residual-in_err-find_facts.result _ failed;
+      same = goes-nowhere _ _ c.self.view_is;
+      err = on_err c.from_residual-in_err-find_facts.result _ c.self.view_is;
+      valid = valid_consistent _ _ _ _ _ _ c.self.view_is c.self.invariant;
+    }
 
 pub returns-clause-ok : goal.returns-clause-ok
 returns-clause-ok c = rw (happens-take c.args.self.now c.args.t c.requires) (grind (arith, common_steps))
@@ -30,15 +50,16 @@ before c =
       stopped = c.self.inside.stopped;
     }
 
-pub invariant_of-self-3 : goal.invariant_of-self-3
-invariant_of-self-3 c =
+pub invariant_of-self-2 : goal.invariant_of-self-2
+invariant_of-self-2 c =
     let w : RoundState = before c in
     let v : RoundState =
     record w {
       in_flight = set w.in_flight c.from.result true;
       taken_at = set w.taken_at c.from-2.result c.entries-now.result;
     } in
-    let now : c.entries-now.result ≡ length w.schedule = c.entries-now.ensures in
+    let now : c.entries-now.result ≡ length w.schedule =
+    c.entries-now.ensures ∙ ap (λ (x : RoundState). length x.schedule) (sym c.self.view_is) in
     let is : happens w (Take c.args.t) ≡ v =
     happens-take w c.args.t (subst (λ (x : RoundState). can_take x c.args.t ≡ true) (sym c.self.view_is) c.requires)
     ∙ sym (rw (c.from.ensures, c.from-2.ensures, now) refl) in
