@@ -3,11 +3,9 @@
 ghost use Rattle.std.specs.Prelude.{◌≡◌, ℕ, ◌+◌, ◌<◌, ◌≤◌, ◌↔◌, max, length, slice_index, slice_set, IsTrue};
 
 use guest_call::THREADS;
+use machine_spec::MOST_STEPS;
 use std::marker::Model;
 use std::simd::prelude::*;
-
-/// The most steps that a clock counts of one thread.
-pub const MOST_COUNT: u32 = 65_536;
 
 /// A count of steps for each thread. A clause sees the list of the counts.
 #[derive(Clone, Copy, PartialEq, Eq)]
@@ -77,10 +75,10 @@ impl Clock {
         theirs.simd_le(mine).all()
     }
 
-    /// Counts one step more of thread `t`.
+    /// Counts one step more of thread `t`, of which there are no more than a run's most steps.
     pub fn tick(&mut self, t: u8)
         requires thread { t < THREADS }
-        requires room { slice_index self.old t < MOST_COUNT }
+        requires room { slice_index self.old t < MOST_STEPS }
         ensures count { length self.old ≡ THREADS }
         ensures more { self.new ≡ slice_set self.old t (slice_index self.old t + 1) }
     {

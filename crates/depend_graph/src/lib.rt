@@ -12,6 +12,6 @@ mod past;
 mod reaching;
 mod threads;
 
-pub use clock::{Clock, MOST_COUNT};
+pub use clock::Clock;
 pub use fact::Fact;
 pub use graph::{Graph, MOST_FACTS};
