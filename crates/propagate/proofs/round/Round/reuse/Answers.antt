@@ -133,6 +133,16 @@ undone c t picked same room_is =
     }) same
     ∙ room c picked room_is
 
+pub returns-in_err-rec-in-Some : goal.returns-in_err-rec-in-Some
+returns-in_err-rec-in-Some c =
+    let failed = c.from_residual.ensures.0 in
+    record {
+      ok = unless_ok c.from_residual.result _ failed;
+      same = goes-no_further c.from_residual.result _ _ failed refl;
+      err = on_err c.from_residual.result _ refl;
+      valid = valid_consistent _ _ _ _ _ _ c.self.view_is c.self.invariant;
+    }
+
 pub invariant_of-self : goal.invariant_of-self
 invariant_of-self c =
     let d : In_ok-rec-in-Some = (goal.at.invariant_of-self c).In_ok-rec-in-Some in

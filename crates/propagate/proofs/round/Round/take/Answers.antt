@@ -17,6 +17,17 @@ unless_job : {T E : Type 0} (r : Result T E) (P : T → Type 0) → IsErr r → 
 unless_job (Ok x) P failed = absurd (cc)
 unless_job (Err e) P failed = tt
 
+pub returns-in_err-job : goal.returns-in_err-job
+returns-in_err-job c =
+    let failed = c.from_residual.ensures.0 in
+    record {
+      ok = unless_ok c.from_residual.result _ failed;
+      job = unless_job c.from_residual.result _ failed;
+      same = goes-nowhere _ _ refl;
+      err = on_err c.from_residual.result _ refl;
+      valid = valid_consistent _ _ _ _ _ _ c.self.view_is c.self.invariant;
+    }
+
 pub invariant_of-self : goal.invariant_of-self
 invariant_of-self c = kept-alike _ _ _ _ _ _ _ c.self.invariant refl c.in_err-find_facts.ensures.err
 
