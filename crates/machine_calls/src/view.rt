@@ -19,7 +19,7 @@ pub trait View: Drop {
     ///
     /// # Errors
     ///
-    /// An error if the host's memory ran out, or the memory has as many holders as can be counted.
+    /// An error if the host's memory ran out, or the view has as many holders as can be counted.
     fn share(&self) -> Result<Self, AllocError>
         ensures { IfOk result (λ other. pages other ≡ pages self.now) };
 

@@ -222,7 +222,7 @@ impl Core {
     ///
     /// # Errors
     ///
-    /// An error if the host's memory ran out.
+    /// An error if the host's memory ran out, or a shared part has as many holders as can be counted.
     #[tactic(auto, unfolding(machine_spec::specs::Setup::first))]
     pub fn new(alloc: Global, setup: &Setup) -> Result<Core, AllocError>
         ensures first { IfOk result (λ core. core ≡ first setup.now) }
@@ -300,7 +300,7 @@ impl Core {
     ///
     /// # Errors
     ///
-    /// An error if the host's memory ran out.
+    /// An error if the frame or the thread's view has as many holders as can be counted.
     #[tactic(auto, using(machine_calls::proofs::Asking::below, machine_calls::proofs::Asking::view_count))]
     pub fn start_of(&self, t: u8) -> Result<Job, AllocError>
         requires { is_ready (hart_of self.now t).status ≡ true }

@@ -113,7 +113,7 @@ impl Setup {
     ///
     /// # Errors
     ///
-    /// An error if the host's memory ran out.
+    /// An error if the executable has as many holders as can be counted.
     pub fn with(&self, input: Vec<u8>, limits: Limits) -> Result<Setup, AllocError>
         requires { length input.items ≤ MOST_INPUT_BYTES }
         ensures { IfOk result (λ s. s
@@ -137,7 +137,7 @@ impl Setup {
     ///
     /// # Errors
     ///
-    /// An error if the host's memory ran out.
+    /// An error if the executable has as many holders as can be counted.
     pub fn with_input(&self, input: Vec<u8>) -> Result<Setup, AllocError>
         requires { length input.items ≤ MOST_INPUT_BYTES }
         ensures { IfOk result (λ s. s ≡ record self.now { input = input.items }) }
@@ -213,7 +213,7 @@ impl Setup {
     ///
     /// # Errors
     ///
-    /// An error if the host's memory ran out.
+    /// An error if the host's memory ran out, or a shared part has as many holders as can be counted.
     #[tactic(auto, unfolding(machine_spec::specs::Setup::start_memory))]
     pub fn memory(&self, alloc: Global) -> Result<PageTable, AllocError>
         ensures { IfOk result (λ memory. memory ≡ setup.start_memory self.now) }
