@@ -23,7 +23,7 @@ use Rattle.ith_commands.specs.Counting.{Work, IsCounted, turns_for}
 use Rattle.ith_commands.specs.Playing.{AreFound, IsPlayed}
 use Rattle.ith_top.specs.Making.{IsMadeOn}
 use Rattle.ith_commands.proofs.Worlds.{none_fell_trans, rose_before}
-use Rattle.ith_commands.proofs.Printing.{prints_none, prints_both}
+use Rattle.ith_commands.proofs.Printing.{prints_none, prints_both, prints_then}
 
 -- the rounds so far were made and printed, and the counter rose by their turns, from one number to the other; and those
 -- to come, whatever is found of them, begin where the last one ended

@@ -115,6 +115,12 @@ pub knows-found :
 knows-found v marks past None known same = absurd known
 knows-found v marks past (Some fs) known same = subst (λ (p : Option History). AreFactsOf p fs) (sym same) known
 
+pub knows-more :
+    (w : RoundState) (marks : Option (Vec Bool Global)) (before facts : Option (List Fact)) (needed : Bool)
+    → KnowsEnough w marks before → IsFound needed w.past before facts → KnowsEnough w marks facts
+knows-more w marks before facts true knows found = knows-found w marks w.past facts found refl
+knows-more w marks before facts false knows found = subst (KnowsEnough w marks) (sym found) knows
+
 -- at the start they are found if there are no marks
 pub knows-opening :
     (setup : Setup) (past : Option History) (marks : Option (Vec Bool Global)) (before facts : Option (List Fact))
@@ -184,6 +190,28 @@ pub knows-reused :
 knows-reused w v marks before facts true knows found past in_flight =
     knows-same w v marks facts (subst (KnowsEnough w marks) (sym found) knows) past in_flight
 knows-reused w v marks before facts false knows found past in_flight = knows-found v None w.past facts found past
+
+-- a round after the facts of its history were found
+pub kept-found :
+    (w : RoundState) (i : ℕ) (fs gs : Option (List Fact)) (b : Option (Vec Bool Global)) (vs : Option Versions)
+    (needed : Bool)
+    → IsConsistent w i fs b vs → IsFound needed w.past fs gs → IsConsistent w i gs b vs
+kept-found w i fs gs b vs needed kept found =
+    record {
+      valid = kept.valid;
+      in_order = kept.in_order;
+      counted = kept.counted;
+      by_schedule = kept.by_schedule;
+      applied = kept.applied;
+      on_map = kept.on_map;
+      framed = kept.framed;
+      points = kept.points;
+      executed = kept.executed;
+      few = kept.few;
+      knows = knows-more w b fs gs needed kept.knows found;
+      as_before = kept.as_before;
+      right = kept.right;
+    }
 
 -- records applied one after the other, and one more
 

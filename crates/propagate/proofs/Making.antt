@@ -248,6 +248,15 @@ discarded-kept w v i t fs b vs kept in_flight is =
 
 -- ---- the entries of a round after it
 
+-- an unchanged round has as many
+pub goes-nowhere : (v w : RoundState) → v ≡ w → Continues 0 w v
+goes-nowhere v w is =
+    record {
+      setup = ap (λ (x : RoundState). x.setup) is;
+      past = ap (λ (x : RoundState). x.past) is;
+      entries = omega (arith, ap (λ (x : RoundState). length x.schedule) is);
+    }
+
 -- a round with one more entry
 pub goes-more :
     (v w u : RoundState) (e : Entry)
