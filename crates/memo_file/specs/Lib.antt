@@ -7,5 +7,6 @@ pub mod WritingMasks
 pub mod Filling
 pub mod Seen
 pub mod Growth
+pub mod Heads
 pub mod Setups
 pub mod Wholes

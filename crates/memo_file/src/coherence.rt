@@ -10,9 +10,9 @@ use release_core::{ApplyError, Core, History};
 
 /// Applies the records of a history one after the other, from a machine on: each has to fit after those before it, and
 /// the end has to come with the last one.
-pub fn refuse_incoherent(mut core: Core, history: &History) -> Result<(), ReadError>
+pub fn refuse_incoherent(core: &mut Core, history: &History) -> Result<(), ReadError>
     ensures { Gives (λ _. history.now) result
-        (coherent_or (incoherent_from 0 core history.now.records) history.now) }
+        (coherent_or (incoherent_from 0 core.old history.now.records) history.now) }
 {
     let records = history.records();
     for i in 0..records.len() {

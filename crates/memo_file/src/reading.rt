@@ -106,13 +106,13 @@ fn read_behind_version(
 
 /// Refuses a history that is old in a format, or else one that isn't coherent. `core` is the machine that it starts as.
 #[tactic(auto, using(crate::proofs::Ending::map_is))]
-fn judge(core: Core, history: &History, format: Format) -> Result<(), ReadError>
+fn judge(mut core: Core, history: &History, format: Format) -> Result<(), ReadError>
     requires core { core ≡ first history.now.setup }
     requires sound { IsSetup history.now.setup }
     ensures { Gives (λ _. history.now) result (todays format history.now) }
 {
     refuse_old(format, core.frame().map(), history)?;
-    refuse_incoherent(core, history)
+    refuse_incoherent(&mut core, history)
 }
 
 /// A reader after the magic number and the version.

@@ -1,14 +1,15 @@
 //! The records of a memo.
 
-ghost use Rattle.std.specs.Prelude.{◌≡◌, ◌<◌, ◌≤◌, ◌==◌, ◌++◌, ◌∷◌, [], map, IfOk};
+ghost use Rattle.std.specs.Prelude.{◌≡◌, ◌<◌, ◌≤◌, ◌==◌, ◌++◌, ◌∷◌, [], ℕ, List, map, IfOk, IfErr};
 ghost use Rattle.std.specs.List.{count_by};
 ghost use Rattle.std.specs.Arc.{arc_value};
-ghost use Rattle.memory_spec.specs.Pages.{AreAddressable};
+ghost use Rattle.memory_spec.specs.Pages.{AreAddressable, Mapped};
 ghost use Rattle.history_spec.specs.History.{threads_of_records};
 ghost use Rattle.memo_spec.specs.Reader.{chain};
-ghost use Rattle.memo_spec.specs.Reading.{end_of, record_at};
-ghost use Rattle.memo_file.specs.Gives.{Gives};
+ghost use Rattle.memo_spec.specs.Reading.{RecordState, end_of, record_at};
+ghost use Rattle.memo_file.specs.Gives.{Fails, Gives};
 ghost use Rattle.memo_file.specs.Growth.{state_of};
+ghost use Rattle.memo_file.specs.Heads.{behind_head};
 
 use crate::error::ReadError;
 use crate::fields::{byte_below, half, registers, word_within};
@@ -20,6 +21,7 @@ use isa_spec::Cause;
 use ith_text::Cursor;
 use machine_spec::MOST_STEPS;
 use page_store::{Delta, Reads};
+use rv_isa::Regs;
 use std::alloc::Global;
 use thunk_record::{Kept, Record};
 use thunk_spec::ThunkEnd;
@@ -41,6 +43,39 @@ fn end(number: u8) -> ThunkEnd
         8 => ThunkEnd::Call,
         _ => ThunkEnd::Fuel,
     }
+}
+
+/// What a record says before its pages.
+#[derive(Drop)]
+struct Head {
+    thread: u8,
+    end: ThunkEnd,
+    count: u32,
+    start: Regs,
+    finish: Regs,
+}
+
+/// All of a record before the counts of its pages. Its thunk made at most `fuel` turns.
+fn read_head(cursor: &mut Cursor, fuel: u32) -> Result<Head, ReadError>
+    ensures thread { IfOk result (λ head. head.thread < THREADS) }
+    ensures behind { (pages : List Mapped) (pool : List (List ℕ)) (s : RecordState)
+        → IfOk result (λ head. record_at pages fuel pool s cursor.old
+            ≡ behind_head pages pool s head cursor.new) }
+    ensures refused { (pages : List Mapped) (pool : List (List ℕ)) (s : RecordState)
+        → IfErr result (λ e. Fails e (record_at pages fuel pool s cursor.old)) }
+{
+    let thread = byte_below(cursor, THREADS as u8)?;
+    let number = byte_below(cursor, 10)?;
+    let count = word_within(cursor, 1, fuel)?;
+    let start = registers(cursor)?;
+    let finish = registers(cursor)?;
+    Ok(Head {
+        thread,
+        end: end(number),
+        count,
+        start,
+        finish,
+    })
 }
 
 /// The record after others, and how many pages of the pool are used after it.
@@ -69,11 +104,7 @@ fn record(
         (record_at sources.now.slots.now sources.now.fuel (map arc_value sources.now.pool.now)
         (state_of before.now) cursor.old) }
 {
-    let thread = byte_below(cursor, THREADS as u8)?;
-    let number = byte_below(cursor, 10)?;
-    let count = word_within(cursor, 1, sources.fuel)?;
-    let start = registers(cursor)?;
-    let finish = registers(cursor)?;
+    let head = read_head(cursor, sources.fuel)?;
     let read_count = half(cursor)?;
     let (reads, _low, used) = read_pages(alloc, cursor, sources, read_count, before.used())?;
     let delta_count = half(cursor)?;
@@ -81,11 +112,12 @@ fn record(
     let kept = Kept {
         reads: Reads::new(reads),
         delta: Delta::new(delta),
-        finish,
-        end: end(number),
-        count,
+        finish: head.finish,
+        end: head.end,
+        count: head.count,
     };
-    let made = Record::new(thread, before.next_number(thread), start, kept);
+    let number = before.next_number(head.thread);
+    let made = Record::new(head.thread, number, head.start, kept);
     Ok((made, used))
 }
 

@@ -10,10 +10,10 @@ returns-in-Err-Stale c =
     let rs = c.records-records.result.now in
     let r = c.deref.result.now in
     let e : slice_get rs c.loop-i.i ≡ Some r = search rules in
-    let f = stale_at rs c.loop-i.core c.loop-i.i r (incoherent_from 0 c.args.core rs) (omega arith) e
+    let f = stale_at rs c.loop-i.core c.loop-i.i r (incoherent_from 0 c.args.core.now rs) (omega arith) e
     (rw c.in-Err-Stale.field-0-is at c.in-Err-Stale.ensures.cause) c.loop-i.invariant in
     ap (λ (o : Option ℕ). coherent_or o c.args.history.now)
-    (ap (incoherent_from 0 c.args.core) (sym c.records-records.ensures.records) ∙ f)
+    (ap (incoherent_from 0 c.args.core.now) (sym c.records-records.ensures.records) ∙ f)
 
 pub loop-i-preserved : goal.loop-i-preserved
 loop-i-preserved c =
