@@ -60,7 +60,7 @@ fn read_head(cursor: &mut Cursor, fuel: u32) -> Result<Head, ReadError>
     ensures thread { IfOk result (λ head. head.thread < THREADS) }
     ensures behind { (pages : List Mapped) (pool : List (List ℕ)) (s : RecordState)
         → IfOk result (λ head. record_at pages fuel pool s cursor.old
-            ≡ behind_head pages pool s head cursor.new) }
+        ≡ behind_head pages pool s head cursor.new) }
     ensures refused { (pages : List Mapped) (pool : List (List ℕ)) (s : RecordState)
         → IfErr result (λ e. Fails e (record_at pages fuel pool s cursor.old)) }
 {

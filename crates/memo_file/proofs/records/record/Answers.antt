@@ -19,8 +19,8 @@ unfolding behind_head
 returns-in_err-read_count-clause-given c =
     let p = err_from_is_err_and c.from_residual-in_err-read_count.result c.from_residual-in_err-read_count.ensures.1 in
     let behind =
-        c.in_ok-head.ensures.behind c.args.sources.now.slots.now (map arc_value c.args.sources.now.pool.now)
-        (state_of c.args.before.now) in
+    c.in_ok-head.ensures.behind c.args.sources.now.slots.now (map arc_value c.args.sources.now.pool.now)
+    (state_of c.args.before.now) in
     rw (p.1, p.2, behind)
     (part_fails c.in_err-read_count.field-0.0 _ _ c.in_err-read_count.ensures.given)
 
@@ -29,8 +29,8 @@ unfolding behind_head
 returns-in_err-reads-clause-given c =
     let p = err_from_is_err_and c.from_residual-in_err-reads.result c.from_residual-in_err-reads.ensures.1 in
     let behind =
-        c.in_ok-head.ensures.behind c.args.sources.now.slots.now (map arc_value c.args.sources.now.pool.now)
-        (state_of c.args.before.now) in
+    c.in_ok-head.ensures.behind c.args.sources.now.slots.now (map arc_value c.args.sources.now.pool.now)
+    (state_of c.args.before.now) in
     rw (p.1, p.2, behind, c.in_ok-read_count.ensures.given, ← c.used.ensures)
     (part_fails c.in_err-reads.field-0.0 _ _ c.in_err-reads.ensures.given)
 
@@ -39,8 +39,8 @@ unfolding behind_head
 returns-in_err-delta_count-clause-given c =
     let p = err_from_is_err_and c.from_residual-in_err-delta_count.result c.from_residual-in_err-delta_count.ensures.1 in
     let behind =
-        c.in_ok-head.ensures.behind c.args.sources.now.slots.now (map arc_value c.args.sources.now.pool.now)
-        (state_of c.args.before.now) in
+    c.in_ok-head.ensures.behind c.args.sources.now.slots.now (map arc_value c.args.sources.now.pool.now)
+    (state_of c.args.before.now) in
     rw (p.1, p.2, behind, c.in_ok-read_count.ensures.given, ← c.used.ensures, c.in_ok-reads.ensures.given)
     (part_fails c.in_err-delta_count.field-0.0 _ _ c.in_err-delta_count.ensures.given)
 
@@ -49,8 +49,8 @@ unfolding behind_head
 returns-in_err-delta-clause-given c =
     let p = err_from_is_err_and c.from_residual-in_err-delta.result c.from_residual-in_err-delta.ensures.1 in
     let behind =
-        c.in_ok-head.ensures.behind c.args.sources.now.slots.now (map arc_value c.args.sources.now.pool.now)
-        (state_of c.args.before.now) in
+    c.in_ok-head.ensures.behind c.args.sources.now.slots.now (map arc_value c.args.sources.now.pool.now)
+    (state_of c.args.before.now) in
     rw (p.1, p.2, behind, c.in_ok-read_count.ensures.given, ← c.used.ensures, c.in_ok-reads.ensures.given, c.in_ok-delta_count.ensures.given)
     (part_fails c.in_err-delta.field-0.0 _ _ c.in_err-delta.ensures.given)
 
@@ -64,8 +64,8 @@ pub returns-clause-given : goal.returns-clause-given
 unfolding behind_head
 returns-clause-given c =
     let behind =
-        c.in_ok-head.ensures.behind c.args.sources.now.slots.now (map arc_value c.args.sources.now.pool.now)
-        (state_of c.args.before.now) in
+    c.in_ok-head.ensures.behind c.args.sources.now.slots.now (map arc_value c.args.sources.now.pool.now)
+    (state_of c.args.before.now) in
     rw (c.new-made.ensures, c.new.ensures, c.new-2.ensures, c.next_number-number.ensures) (rw (
       behind,
       c.in_ok-read_count.ensures.given,
