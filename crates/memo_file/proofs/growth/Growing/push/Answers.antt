@@ -25,14 +25,14 @@ overflow_add-self c =
 pub invariant_of-self-2 : goal.invariant_of-self-2
 invariant_of-self-2 c =
     let t : c.from-thread.result ≡ c.args.rec.thread = c.from-thread.ensures ∙ c.thread.ensures in
-    let rec : arc_value c.in_ok-new.field-0 ≡ c.args.rec = search rules in
+    let rec : arc_value c.in_ok-new.field-0 ≡ c.args.rec = c.in_ok-new.ensures.ok in
     let len : length c.self.inside.counts ≡ 32 = search rules in
     rw (c.in_ok-push.ensures.ok, rec, t) (counts_more c.self.inside.counts c.self.inside.records c.args.rec len
     c.self.invariant c.requires.thread)
 
 pub returns-clause-ok : goal.returns-clause-ok
 returns-clause-ok c =
-    let rec : arc_value c.in_ok-new.field-0 ≡ c.args.rec = search rules in
+    let rec : arc_value c.in_ok-new.field-0 ≡ c.args.rec = c.in_ok-new.ensures.ok in
     rw (c.in_ok-push.ensures.ok, rec) (ap grown c.self.view_is)
   where
     grown : Growth → Growth
