@@ -46,8 +46,10 @@ pub fn audit<R: Threads + Sync, H: Host>(
     ensures { Ends (Some (Audits (audit_said line.now)))
         (H.world host.old) (H.world host.new) (status_in result) }
 {
-    let history = remember(alloc, host, line.memo)?;
-    let (verdict, text) = verdict_of(rt, alloc, &history, line.workers)?;
+    let (verdict, text) = {
+        let history = remember(alloc, host, line.memo)?;
+        verdict_of(rt, alloc, &history, line.workers)?
+    };
     print_text(alloc, host, text.as_slice())?;
     match verdict.first {
         None => Ok(true),

@@ -26,8 +26,10 @@ pub fn find_races<H: Host>(
     ensures { Ends (Some (FindsRaces (races_said line.now)))
         (H.world host.old) (H.world host.new) (status_in result) }
 {
-    let history = remember(alloc, host, line.memo)?;
-    let text = listing(alloc, &history, MOST_RACES)?;
+    let text = {
+        let history = remember(alloc, host, line.memo)?;
+        listing(alloc, &history, MOST_RACES)?
+    };
     print_text(alloc, host, text.as_slice())?;
     Ok(true)
 }

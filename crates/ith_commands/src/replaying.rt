@@ -143,8 +143,10 @@ pub fn replay<H: Host>(
     ensures cost { ReplaySpends (replay_said line.now) (H.world host.old) (H.world host.new)
         turns.old turns.new (status_in result) }
 {
-    let (setup, schedule) = prepare(alloc, host, line)?;
-    let (threads, outcome) = outcome_of(alloc, host, &setup, schedule.as_slice(), turns)?;
+    let (threads, outcome) = {
+        let (setup, schedule) = prepare(alloc, host, line)?;
+        outcome_of(alloc, host, &setup, schedule.as_slice(), turns)?
+    };
     let text = text_of(alloc, threads.as_slice(), &outcome)?;
     print_text(alloc, host, text.as_slice())?;
     Ok(is_exit(Some(outcome.ending)))

@@ -19,8 +19,10 @@ pub fn show<H: Host>(alloc: Global, host: &mut H, line: &ShowLine<'_>) -> Result
     ensures { Ends (Some (Shows (show_said line.now)))
         (H.world host.old) (H.world host.new) (status_in result) }
 {
-    let history = remember(alloc, host, line.memo)?;
-    let text = listing(alloc, &history)?;
+    let text = {
+        let history = remember(alloc, host, line.memo)?;
+        listing(alloc, &history)?
+    };
     print_text(alloc, host, text.as_slice())?;
     Ok(true)
 }
