@@ -8,7 +8,7 @@
 //! last call. A worker that has to wait releases the lock and waits in one operation, so it misses no notification of
 //! what came after it asked. A worker that is held at its gate asks and looks only after it has passed the gate.
 
-ghost use Rattle.std.specs.Prelude.{◌≡◌, ◌≢◌, ◌+◌, ◌<◌, ◌≤◌, All, length, map, replicate, sum, sum_by, vec_len, vec_capacity, Some, [], IfOk};
+ghost use Rattle.std.specs.Prelude.{◌≡◌, ◌≢◌, ◌+◌, ◌<◌, ◌≤◌, All, length, map, sum, sum_by, vec_len, vec_capacity, Some, [], IfOk};
 ghost use Rattle.std.specs.Arc.{arc_value};
 ghost use Rattle.machine_spec.specs.Setup.{first};
 ghost use Rattle.history_spec.specs.History.{History};
@@ -38,9 +38,8 @@ pub struct Board<J: Naming> {
     lock: Mutex<Locked<J>>,
     changed: Condvar,
     worker_steps: Vec<u64>,
-    numbers: Vec<u64>,
-    ghost none: { (worker_steps.items ≡ []) × (numbers.items ≡ []) },
-    ghost room: { (J.workers ≤ vec_capacity worker_steps) × (J.watches ≤ vec_capacity numbers) },
+    ghost none: { worker_steps.items ≡ [] },
+    ghost room: { J.workers ≤ vec_capacity worker_steps },
 }
 
 /// A round that workers made.
@@ -74,43 +73,23 @@ fn passes_of<J: Naming, R: Threads>(
     Ok(passes)
 }
 
-/// The parts of a board besides its round, before the first step.
-#[derive(Drop)]
-struct Places<J: Naming> {
-    /// A pass for each worker.
-    passes: Vec<Pass<J>>,
-    /// Room for a number of steps for each worker.
-    worker_steps: Vec<u64>,
-    /// Room for a number for each watch.
-    numbers: Vec<u64>,
-}
-
-/// Passes for `workers` workers, none of which has made a step, and room to list the steps of each worker and a number
-/// for each of `watches` watches.
+/// A pass for each of `workers` workers, none of which has made a step, and room to list the steps of each.
 fn places_of<J: Naming, R: Threads>(
     rt: &R,
     alloc: Global,
     all: Share<J>,
     workers: u32,
-    watches: u32,
-) -> Result<Places<J>, AllocError>
+) -> Result<(Vec<Pass<J>>, Vec<u64>), AllocError>
     requires parts { all.parts ≡ workers }
     requires amount { all.amount ≡ 0 }
-    ensures count { IfOk result (λ places. vec_len places.passes ≡ workers) }
-    ensures nothing { IfOk result (λ places. All (λ pass. pass.steps ≡ 0) places.passes.items) }
-    ensures none { IfOk result (λ places. (places.worker_steps.items ≡ [])
-        × (places.numbers.items ≡ [])) }
-    ensures room { IfOk result (λ places. (workers ≤ vec_capacity places.worker_steps)
-        × (watches ≤ vec_capacity places.numbers)) }
+    ensures count { IfOk result (λ made. vec_len made.0 ≡ workers) }
+    ensures nothing { IfOk result (λ made. All (λ pass. pass.steps ≡ 0) made.0.items) }
+    ensures none { IfOk result (λ made. made.1.items ≡ []) }
+    ensures room { IfOk result (λ made. workers ≤ vec_capacity made.1) }
 {
     let worker_steps = Vec::with_capacity(alloc, workers as usize)?;
-    let numbers = Vec::with_capacity(alloc, watches as usize)?;
     let passes = passes_of(rt, alloc, all, workers)?;
-    Ok(Places {
-        passes,
-        worker_steps,
-        numbers,
-    })
+    Ok((passes, worker_steps))
 }
 
 /// Merges the shares and the efforts of all passes, and lists the steps of each in their order. Without an edit the
@@ -168,55 +147,17 @@ fn watches_of<J: Naming>(
     Ok(seats)
 }
 
-/// Places for `workers` workers, and `watches` watches of the word that counts the steps.
-fn watched_places<J: Naming, R: Threads>(
-    rt: &R,
-    alloc: Global,
-    all: Share<J>,
-    counter: &mut Counter,
-    workers: u32,
-    watches: u32,
-) -> Result<(Places<J>, Vec<Watch<J>>), AllocError>
-    requires parts { all.parts ≡ workers }
-    requires amount { all.amount ≡ 0 }
-    requires table { counter.old.writer.table ≡ J.table }
-    ensures count { IfOk result (λ made. (vec_len made.0.passes ≡ workers)
-        × (vec_len made.1 ≡ watches)) }
-    ensures nothing { IfOk result (λ made. All (λ pass. pass.steps ≡ 0) made.0.passes.items) }
-    ensures none { IfOk result (λ made. (made.0.worker_steps.items ≡ [])
-        × (made.0.numbers.items ≡ [])) }
-    ensures room { IfOk result (λ made. (workers ≤ vec_capacity made.0.worker_steps)
-        × (watches ≤ vec_capacity made.0.numbers)) }
-    ensures added { counter.new.writer.added ≡ counter.old.writer.added }
-    ensures table { counter.new.writer.table ≡ counter.old.writer.table }
-{
-    let places = places_of(rt, alloc, all, workers, watches)?;
-    let seats = watches_of(alloc, counter, watches)?;
-    Ok((places, seats))
-}
-
-/// Takes all watches back, and looks at the word a last time, after all that they have seen. Lists the number that it
-/// finds once for each watch.
-fn last_numbers<J: Naming>(
-    mut counter: Counter,
-    mut watches: Vec<Watch<J>>,
-    mut numbers: Vec<u64>,
-) -> Vec<u64>
-    requires table { counter.writer.table ≡ J.table }
-    requires none { numbers.items ≡ [] }
-    requires room { vec_len watches ≤ vec_capacity numbers }
-    ensures numbers { result.items ≡ replicate (vec_len watches) counter.writer.added }
+/// Takes all watches back, and returns how many steps were counted, by a last look at the word, after all that the
+/// watches have seen.
+fn last_number<J: Naming>(mut counter: Counter, mut watches: Vec<Watch<J>>) -> u64
+    requires { counter.writer.table ≡ J.table }
+    ensures number { result ≡ counter.writer.added }
     ensures seen { All (λ watch. watch.reader.seen ≤ counter.writer.added) watches.items }
 {
-    let many = watches.len();
     while let Some(watch) = watches.pop() {
         counter.join(watch);
     }
-    let number = counter.read();
-    for given in 0..many {
-        numbers.push_reserved(number);
-    }
-    numbers
+    counter.read()
 }
 
 impl<J: Naming> Board<J> {
@@ -242,13 +183,8 @@ impl<J: Naming> Board<J> {
     {
         let Blanks { ledger, issuer } = blanks;
         let (book, all) = ledger.open::<J>();
-        let Places {
-            passes,
-            worker_steps,
-            numbers,
-        } = places_of(rt, alloc, all, workers, 0)?;
         let locked = Locked::new(round, book, None, issuer);
-        Ok((Board::opened(locked, worker_steps, numbers), passes))
+        Board::opened(rt, alloc, locked, all, workers)
     }
 
     /// The board of a round before its first step, a pass for each of its workers, none of which has made a step, and
@@ -276,30 +212,36 @@ impl<J: Naming> Board<J> {
         ensures nothing { IfOk result (λ made. All (λ pass. pass.steps ≡ 0) made.1.items) }
     {
         let WatchedRound { round, mut counter } = watched;
+        let seats = watches_of(alloc, &mut counter, watches)?;
         let Blanks { ledger, issuer } = blanks;
         let (book, all) = ledger.open::<J>();
-        let (places, seats) = watched_places(rt, alloc, all, &mut counter, workers, watches)?;
-        let Places {
-            passes,
-            worker_steps,
-            numbers,
-        } = places;
         let locked = Locked::new(round, book, Some(counter), issuer);
-        Ok((Board::opened(locked, worker_steps, numbers), passes, seats))
+        let (board, passes) = Board::opened(rt, alloc, locked, all, workers)?;
+        Ok((board, passes, seats))
     }
 
-    /// The board of a round under its lock, with room for what is listed when it is closed.
-    fn opened(locked: Locked<J>, worker_steps: Vec<u64>, numbers: Vec<u64>) -> Board<J>
-        requires none { (worker_steps.items ≡ []) × (numbers.items ≡ []) }
-        requires room { (J.workers ≤ vec_capacity worker_steps)
-            × (J.watches ≤ vec_capacity numbers) }
+    /// The board of a round under its lock, with room to list the steps of each worker when it is closed, and a pass
+    /// for each worker, none of which has made a step.
+    fn opened<R: Threads>(
+        rt: &R,
+        alloc: Global,
+        locked: Locked<J>,
+        all: Share<J>,
+        workers: u32,
+    ) -> Result<(Board<J>, Vec<Pass<J>>), AllocError>
+        requires parts { all.parts ≡ workers }
+        requires amount { all.amount ≡ 0 }
+        requires workers { workers ≡ J.workers }
+        ensures count { IfOk result (λ made. vec_len made.1 ≡ workers) }
+        ensures nothing { IfOk result (λ made. All (λ pass. pass.steps ≡ 0) made.1.items) }
     {
-        Board {
+        let (passes, worker_steps) = places_of(rt, alloc, all, workers)?;
+        let board = Board {
             lock: Mutex::new(locked),
             changed: Condvar::new(),
             worker_steps,
-            numbers,
-        }
+        };
+        Ok((board, passes))
     }
 
     /// How many steps of the round were made, by one look at the word that counts them. It takes no lock, allocates
@@ -437,13 +379,9 @@ impl<J: Naming> Board<J> {
         }
     }
 
-    /// As `close`, and takes all watches back too. For each of them it returns how many steps the round has, by one
-    /// last look at the word, after all that the watches saw. Allocates nothing.
-    pub fn close_watched(
-        self,
-        passes: Vec<Pass<J>>,
-        watches: Vec<Watch<J>>,
-    ) -> (ClosedRound, Vec<u64>)
+    /// As `close`, and takes all watches back too. Also returns how many steps the round has, by one last look at the
+    /// word, after all that the watches saw. Allocates nothing.
+    pub fn close_watched(self, passes: Vec<Pass<J>>, watches: Vec<Watch<J>>) -> (ClosedRound, u64)
         requires all { vec_len passes ≡ J.parts }
         requires workers { (vec_len passes ≡ J.workers) × (0 < vec_len passes) }
         requires watches { (vec_len watches ≡ J.watches) × (0 < vec_len watches) }
@@ -452,15 +390,13 @@ impl<J: Naming> Board<J> {
         ensures worker_steps { result.0.worker_steps.items ≡ map (λ pass. pass.steps) passes.items }
         ensures turns { result.0.effort.turns
             ≡ sum_by (λ pass. pass.effort.turns) passes.items }
-        ensures numbers { result.1.items
-            ≡ replicate (vec_len watches) (length result.0.round.schedule) }
+        ensures number { result.1 ≡ length result.0.round.schedule }
         ensures seen { All
             (λ watch. watch.reader.seen ≤ length result.0.round.schedule) watches.items }
     {
         let Board {
             lock,
             worker_steps,
-            numbers,
             ..
         } = self;
         let Locked {
@@ -474,12 +410,12 @@ impl<J: Naming> Board<J> {
         let Some(counter) = counter else {
             unreachable!()
         };
-        let numbers = last_numbers(counter, watches, numbers);
+        let number = last_number(counter, watches);
         let worked = ClosedRound {
             round,
             worker_steps,
             effort,
         };
-        (worked, numbers)
+        (worked, number)
     }
 }

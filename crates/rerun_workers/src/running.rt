@@ -13,7 +13,7 @@ use super::board::{Board, ClosedRound};
 use super::effort::Effort;
 use super::naming::{Blanks, Naming};
 use super::watched::run_watched;
-use super::watching::{Counter, WatchedRound};
+use super::watching::WatchedRound;
 use super::working::work_together;
 use ith_host::Gate;
 use propagate::{Round, run_alone_shown};
@@ -209,15 +209,11 @@ pub fn run_round_watched<R: Threads + Wait + Sync, G: Gate + Sync>(
         let alone = run_by_first(alloc, setup, past, workers, gate, Effort::new(rt))?;
         return with_last(alloc, alone);
     }
-    let counter = Counter::new(alloc)?;
-    let begun = Round::new(alloc, setup, past)?;
+    let watched = WatchedRound::new(alloc, setup, past)?;
     let (worked, numbers) = run_watched::<Brand, R, G>(
         rt,
         alloc,
-        WatchedRound {
-            round: begun,
-            counter,
-        },
+        watched,
         workers,
         gate,
         Blanks::new(workers),

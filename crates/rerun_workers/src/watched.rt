@@ -19,17 +19,6 @@ use std::sync::Wait;
 use std::sync::atomic::{AtomicBool, Ordering};
 use std::thread::{Threads, join};
 
-/// Room for the numbers that a watcher reads, and for its watch when it is returned.
-fn room_to_watch<J: Naming>(alloc: Global) -> Result<(Vec<u64>, Vec<Watch<J>>), AllocError>
-    ensures numbers { IfOk result (λ room. (room.0.items ≡ [])
-        × (MOST_LOOKS + 1 ≤ vec_capacity room.0)) }
-    ensures watches { IfOk result (λ room. (room.1.items ≡ []) × (1 ≤ vec_capacity room.1)) }
-{
-    let numbers = Vec::with_capacity(alloc, MOST_LOOKS + 1)?;
-    let watches = Vec::with_capacity(alloc, 1)?;
-    Ok((numbers, watches))
-}
-
 /// Workers make the round on the board, each with one of the passes. Meanwhile a watcher reads how many steps it has.
 /// Returns the watch, the numbers that were read, and the passes.
 fn work_watched<J: Naming + Send + Sync, R: Threads + Wait + Sync, G: Gate + Sync>(
@@ -98,14 +87,14 @@ pub(super) fn run_watched<J: Naming + Send + Sync, R: Threads + Wait + Sync, G: 
     ensures few { IfOk result (λ r. length r.1.items ≤ MOST_LOOKS + 1) }
     ensures last { IfOk result (λ r. last_or None r.1.items ≡ Some (length r.0.round.schedule)) }
 {
-    let (numbers, mut watches) = room_to_watch(alloc)?;
+    let numbers = Vec::with_capacity(alloc, MOST_LOOKS + 1)?;
     let (board, passes, mut seats) = Board::<J>::with_watches(
         rt, alloc, watched, workers, 1, blanks,
     )?;
     let seat = seats.remove(0);
     let (seat, mut numbers, passes) = work_watched(rt, &board, passes, gate, seat, numbers);
-    watches.push_reserved(seat);
-    let (worked, last) = board.close_watched(passes, watches);
-    note(&mut numbers, last[0]);
+    seats.push_reserved(seat);
+    let (worked, last) = board.close_watched(passes, seats);
+    note(&mut numbers, last);
     Ok((worked, numbers))
 }

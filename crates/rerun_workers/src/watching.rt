@@ -1,15 +1,17 @@
 //! Watching a round: a word counts its steps, and a watch reads the word without a lock.
 
-ghost use Rattle.std.specs.Prelude.{◌≡◌, ◌+◌, ◌<◌, ◌≤◌, All, [], vec_len, vec_capacity, Some, None, IfOk};
+ghost use Rattle.std.specs.Prelude.{◌≡◌, ◌+◌, ◌<◌, ◌≤◌, All, [], vec_len, vec_capacity, Some, None, option_map, IfOk};
 ghost use Rattle.std.specs.Arc.{arc_value};
 ghost use Rattle.std.specs.List.{last_or};
 ghost use Rattle.std.specs.List.Sorted.{IsStrictlyIncreasing};
 ghost use Rattle.machine_spec.specs.declared.TheConstants.{MOST_STEPS};
 ghost use Rattle.round_spec.specs.declared.TheConstants.{MOST_LOOKS};
+ghost use Rattle.round_spec.specs.Rounds.{opening};
 
 use super::board::Board;
 use super::naming::Naming;
 use propagate::Round;
+use release_core::{History, Setup};
 use round_spec::MOST_LOOKS;
 use shared_words::{Reader, Word, Writer};
 use std::alloc::{AllocError, Global};
@@ -33,6 +35,24 @@ pub struct WatchedRound {
     pub round: Round,
     /// The counter of its steps, which has counted none.
     pub counter: Counter,
+}
+
+impl WatchedRound {
+    /// The round of a setup before its first step, based on a history if there is one, and a counter that has counted
+    /// none of its steps.
+    pub(super) fn new(
+        alloc: Global,
+        setup: Setup,
+        past: Option<Arc<History>>,
+    ) -> Result<WatchedRound, AllocError>
+        ensures round { IfOk result (λ watched. watched.round
+            ≡ opening setup (option_map arc_value past)) }
+        ensures nothing { IfOk result (λ watched. watched.counter.writer.added ≡ 0) }
+    {
+        let counter = Counter::new(alloc)?;
+        let round = Round::new(alloc, setup, past)?;
+        Ok(WatchedRound { round, counter })
+    }
 }
 
 impl Counter {

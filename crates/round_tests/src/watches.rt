@@ -65,7 +65,7 @@ fn read<J: Naming, R: Threads + Wait>(
     passes.push(pass)?;
     watches.push(watch)?;
     let (_worked, last) = board.close_watched(passes, watches);
-    numbers.extend_from_slice(last.as_slice())?;
+    numbers.push(last)?;
     Ok(numbers)
 }
 

@@ -12,7 +12,7 @@ returns-then-is_some-clause-round g c =
     (let some = c.requires in let several = c.if-workers-eq1.false in omega (arith, some, several))
     c.end.ensures.valid.setup
     (closed-opening worked.round worked.worker_steps.items worked.effort.turns worked.effort.compared c.args.setup (option_map arc_value c.args.past)
-    c.in_ok-begun.begun c.in_ok-begun.ensures.round c.in_ok-worked.ensures.closed)
+    c.in_ok-watched.watched.round c.in_ok-watched.ensures.round c.in_ok-worked.ensures.closed)
     c.end.ensures.valid.by_schedule
     (ap is_some (sym c.end.ensures.ending) ∙ sym c.is_some.ensures ∙ c.if-is_some.true)
     c.in_ok-worked.ensures.each
@@ -23,7 +23,7 @@ returns-then-is_some-clause-cost g c =
     cost-several c.args.workers worked.effort.turns worked.effort.compared c.args.setup (option_map arc_value c.args.past) worked.round worked.worker_steps.items
     (let some = c.requires in let several = c.if-workers-eq1.false in omega (arith, some, several))
     (closed-opening worked.round worked.worker_steps.items worked.effort.turns worked.effort.compared c.args.setup (option_map arc_value c.args.past)
-    c.in_ok-begun.begun c.in_ok-begun.ensures.round c.in_ok-worked.ensures.closed)
+    c.in_ok-watched.watched.round c.in_ok-watched.ensures.round c.in_ok-worked.ensures.closed)
 
 pub returns-then-is_some-clause-progress : goal.returns-then-is_some-clause-progress
 returns-then-is_some-clause-progress g c =
@@ -38,5 +38,5 @@ pub returns-then-is_some-clause-spares : goal.returns-then-is_some-clause-spares
 returns-then-is_some-clause-spares g c =
     let worked = c.in_ok-worked.worked in
     (closed-opening worked.round worked.worker_steps.items worked.effort.turns worked.effort.compared c.args.setup
-    (option_map arc_value c.args.past) c.in_ok-begun.begun c.in_ok-begun.ensures.round
+    (option_map arc_value c.args.past) c.in_ok-watched.watched.round c.in_ok-watched.ensures.round
     c.in_ok-worked.ensures.closed).spares

@@ -1,8 +1,8 @@
--- Answers to the goals that the check of `last_numbers` leaves open.
+-- What is left to prove of `last_number`.
 use Rattle.std.proofs.Common.{◌≤◌, ◌∷◌, [], ◌++◌, ap, ◌∙◌, arith}
 use Rattle.std.specs.Option.{option_to_list}
 use Rattle.std.proofs.lemmas.List.Elements.{All-push, All-same}
-use Rattle.rerun_workers.proofs.board.last_numbers.Goals as goal
+use Rattle.rerun_workers.proofs.board.last_number.Goals as goal
 
 pub loop-watch-preserved : goal.loop-watch-preserved
 loop-watch-preserved g c = (
