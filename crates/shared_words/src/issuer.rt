@@ -87,10 +87,13 @@ impl Issuer {
         requires book { ticket.now.book ≡ self.now.book }
         ensures { result ≡ true → IsForLastJob self.now t ticket.now }
     {
+        if usize::from(t) >= THREADS {
+            return false;
+        }
         self.log.agree(ticket);
-        match self.last.get(usize::from(t)) {
-            Some(Some(number)) => *number == ticket.number,
-            _ => false,
+        match self.last[usize::from(t)] {
+            Some(number) => number == ticket.number,
+            None => false,
         }
     }
 }

@@ -1,7 +1,6 @@
--- Answers to the goals that the check of `is_last` leaves open.
-use Rattle.std.proofs.Common.{◌≡◌, ◌∙◌, ap, sym, subst, slice_get, true, is_some, Some, None, List, Option, refl}
+-- Answers to the goals that the check leaves of `is_last`.
+use Rattle.std.proofs.Common.{◌≡◌, ◌∙◌, ap, sym, subst, ℕ, zero, suc, slice_get, get_or, true, is_some, Some, None, List, [], ◌∷◌, Option, refl}
 use Rattle.std.proofs.lemmas.Bool.{eqb-true}
-use Rattle.std.proofs.lemmas.Option.{slice_get-get_or}
 use Rattle.thunk_run.specs.declared.job.Job.{Job}
 use Rattle.shared_words.proofs.Issuing.{last_job}
 use Rattle.shared_words.proofs.issuer.Issuer.is_last.Goals as goal
@@ -10,17 +9,20 @@ there_is : (o : Option Job) → is_some o ≡ true → (job : Job) × (o ≡ Som
 there_is None some = cc
 there_is (Some job) some = (job, refl)
 
-pub returns-in-Some-Some : goal.returns-in-Some-Some
-returns-in-Some-Some c same =
+number_at : (xs : List (Option ℕ)) (k n : ℕ) → get_or xs k None ≡ Some n → slice_get xs k ≡ Some (Some n)
+number_at [] k n is = cc
+number_at (x ∷ xs) zero n is = ap Some is
+number_at (x ∷ xs) (suc k) n is = number_at xs k n is
+
+pub returns-in-Some : goal.returns-in-Some
+returns-in-Some c same =
     let t = c.args.t in
-    let number = c.in-Some-Some.number in
+    let number = c.in-Some.number in
     let one = there_is c.args.ticket.now.job (subst (λ (o : Option Job). is_some o ≡ true) (ap (λ k. k.job) c.ticket.view_is) c.ticket.invariant) in
     let job : Job = one.0 in
     let there : slice_get c.self.inside.last t ≡ Some (Some number) =
-    let found = c.in-Some-Some.ensures in
-    ap (slice_get c.self.inside.last) (sym c.from.ensures)
-    ∙ slice_get-get_or c.self.inside.last c.from.result (Some number) found.lookup.3.0
-    ∙ ap Some (sym (found.lookup.3.1 (Some number)) ∙ c.in-Some-Some.field-0-is)
+    number_at c.self.inside.last t number
+    (ap (λ k. get_or c.self.inside.last k None) (sym c.from-2.ensures) ∙ c.in-Some.is)
     in
     let alike : (other : Job) → slice_get c.self.inside.log.jobs number ≡ Some other → job ≡ other =
     λ other at.
