@@ -63,7 +63,7 @@ fn read_file<H: Host>(
         Got::Ok => Ok(bytes),
         Got::Failed => Err(Refusal::Unread(place)),
         Got::TooLong => Err(Refusal::TooLarge(place)),
-        Got::Memory => Err(Refusal::NoMemory),
+        Got::NoMemory => Err(Refusal::NoMemory),
     }
 }
 

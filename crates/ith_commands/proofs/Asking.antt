@@ -117,7 +117,7 @@ pub unread_front : (files more : List Named) (a b : World) (s : Status) → WhyU
     → WhyUnread (files ++ more) a b s
 unread_front files more a b status.ReadFault why =
     record { stops = stops_front (FailedToRead a b) files more a b why.stops; stays = why.stays }
-unread_front files more a b status.Memory why =
+unread_front files more a b status.NoMemory why =
     let some = why.asked in
     record {
       asked = record {
@@ -160,7 +160,7 @@ unread_more done files a b c status.ReadFault reads within why =
           (λ f it. rose_before _ _ _ (reads.counts.reads f.name) it) reads.stays reads.asked within why.stops;
       stays = stays_trans a b c reads.stays why.stays;
     }
-unread_more done files a b c status.Memory reads within why =
+unread_more done files a b c status.NoMemory reads within why =
     let some = why.asked in
     record {
       asked = record {

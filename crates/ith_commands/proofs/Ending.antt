@@ -110,7 +110,7 @@ pub unread_ends :
     (files : List Named) (image memo list : Type 0) (a b : World) (s : Status) → WhyUnread files a b s
     → EndsBy files image memo list a b s
 unread_ends files image memo list a b status.ReadFault why = why
-unread_ends files image memo list a b status.Memory why = why
+unread_ends files image memo list a b status.NoMemory why = why
 unread_ends files image memo list a b status.TooLarge why = why
 unread_ends files image memo list a b _ why = absurd why
 
@@ -124,7 +124,7 @@ pub refused_ends :
     → AreContents a line contents → WhyNoSetup contents.elf s → EndsEarly (Runs line) a b s
 refused_ends line a b contents status.Image reads are why =
     record { asked = reads.asked; contents = contents; read = are; refused = why; stays = reads.stays }
-refused_ends line a b contents status.Memory reads are why = cut_ends (files_named (Runs line)) a b reads
+refused_ends line a b contents status.NoMemory reads are why = cut_ends (files_named (Runs line)) a b reads
 refused_ends line a b contents _ reads are why = absurd why
 
 -- all files were read, and the memo gave no history
@@ -143,7 +143,7 @@ forgotten_ends line a b memo lists status.Memo reads read reported why =
       refused = why.1;
       stays = reads.stays;
     }
-forgotten_ends line a b memo lists status.Memory reads read reported why = cut_ends (files_named (Reruns line)) a b reads
+forgotten_ends line a b memo lists status.NoMemory reads read reported why = cut_ends (files_named (Reruns line)) a b reads
 forgotten_ends line a b memo lists _ reads read reported why = absurd why
 
 -- the executable was accepted, and the edit lists made no inputs
@@ -160,7 +160,7 @@ unedited_ends line a b contents status.EditList reads read why =
       refused = why.2;
       stays = reads.stays;
     }
-unedited_ends line a b contents status.Memory reads read why = cut_ends (files_named (Runs line)) a b reads
+unedited_ends line a b contents status.NoMemory reads read why = cut_ends (files_named (Runs line)) a b reads
 unedited_ends line a b contents _ reads read why = absurd why
 
 -- the memo was accepted, and the edit lists made no inputs
@@ -182,7 +182,7 @@ rerun_unedited_ends line a b memo lists h status.EditList reads read reported is
       refused = why.2;
       stays = reads.stays;
     }
-rerun_unedited_ends line a b memo lists h status.Memory reads read reported is why =
+rerun_unedited_ends line a b memo lists h status.NoMemory reads read reported is why =
     cut_ends (files_named (Reruns line)) a b reads
 rerun_unedited_ends line a b memo lists h _ reads read reported is why = absurd why
 
@@ -199,12 +199,12 @@ unremembered name a b memo status.Memo reads read why =
       refused = why.1;
       stays = reads.stays;
     }
-unremembered name a b memo status.Memory reads read why = cut_ends (memo_named name ∷ []) a b reads
+unremembered name a b memo status.NoMemory reads read why = cut_ends (memo_named name ∷ []) a b reads
 unremembered name a b memo _ reads read why = absurd why
 
 -- once the host's memory ran out, a later change that requests no read keeps how the command line ends
-late_short : (line : Line) (a b c : World) → EndsLate line a b status.Memory → AsksNothing b c → Stays b c
-    → EndsLate line a c status.Memory
+late_short : (line : Line) (a b c : World) → EndsLate line a b status.NoMemory → AsksNothing b c → Stays b c
+    → EndsLate line a c status.NoMemory
 late_short (Runs line) a b c late none then =
     record { asked = none ∙ late.asked; has = late.has; prints = prints_then a b c _ late.prints then }
 late_short (Reruns line) a b c late none then =
@@ -212,8 +212,8 @@ late_short (Reruns line) a b c late none then =
 late_short _ a b c late none then = absurd late
 
 pub short_of_memory :
-    (line : Option Line) (a b c : World) → Ends line a b status.Memory → AsksNothing b c → Stays b c
-    → Ends line a c status.Memory
+    (line : Option Line) (a b c : World) → Ends line a b status.NoMemory → AsksNothing b c → Stays b c
+    → Ends line a c status.NoMemory
 short_of_memory None a b c ends none then =
     (ends.0, record { stays = stays_trans a b c ends.1.stays then; asked = none ∙ ends.1.asked })
 short_of_memory (Some line) a b c ends none then =

@@ -28,7 +28,7 @@ use Rattle.ith_commands.proofs.Worlds.{stays_same}
 use Rattle.ith_commands.proofs.OneText.{reported, unstated}
 
 -- the host's memory ran out before a read was requested
-pub explain_unasked : (line : ExplainLine) (a : World) → EndsEarly (Explains line) a a status.Memory
+pub explain_unasked : (line : ExplainLine) (a : World) → EndsEarly (Explains line) a a status.NoMemory
 explain_unasked line a =
     record {
       asked = record {

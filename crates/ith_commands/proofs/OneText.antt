@@ -42,6 +42,6 @@ unstated line Has text has Late a b c status.WriteFault reads none late why =
       has = has;
       part = in_part (text has) a b c reads.stays reads.counts why;
     }))
-unstated line Has text has Late a b c status.Memory reads none late why =
+unstated line Has text has Late a b c status.NoMemory reads none late why =
     inl (unbegun (files_named line) a c (none ∙ reads.asked) (stays_trans a b c reads.stays why))
 unstated line Has text has Late a b c _ reads none late why = absurd why

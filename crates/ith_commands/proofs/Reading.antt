@@ -120,7 +120,7 @@ pub one_dropped :
     (a w v : World) (names : List (Bor (List ℕ))) (place : ℕ) (name d : Bor (List ℕ)) (lists : List (Vec ℕ Global))
     → IsReading a w names place lists → place < length names → name ≡ get_or names place d
     → Reads (record { name = name.now; most = MOST_LIST_BYTES } ∷ []) w v
-    → WhyUnread (lists_named (texts_of names)) a v status.Memory
+    → WhyUnread (lists_named (texts_of names)) a v status.NoMemory
 one_dropped a w v names place name d lists reading within at reads =
-    one_unread a w v names place name d lists status.Memory reading within at
+    one_unread a w v names place name d lists status.NoMemory reading within at
     (unbegun (record { name = name.now; most = MOST_LIST_BYTES } ∷ []) w v reads.asked reads.stays)

@@ -57,13 +57,13 @@ pub replay_refused :
     → EndsEarly (Replays line) a b s
 replay_refused line a b contents status.Image reads are why =
     record { asked = reads.asked; contents = contents; read = are; refused = why; stays = reads.stays }
-replay_refused line a b contents status.Memory reads are why = cut_ends (files_named (Replays line)) a b reads
+replay_refused line a b contents status.NoMemory reads are why = cut_ends (files_named (Replays line)) a b reads
 replay_refused line a b contents _ reads are why = absurd why
 
 -- why the text of a schedule encodes no threads
 pub unsaid_unreplayed : (setup : Setup) (text : List ℕ) (s : Status) → WhyNoThreads text s → WhyUnreplayed setup text s
 unsaid_unreplayed setup text status.Schedule why = (Token why.0, why.1)
-unsaid_unreplayed setup text status.Memory why = tt
+unsaid_unreplayed setup text status.NoMemory why = tt
 unsaid_unreplayed setup text _ why = absurd why
 
 -- the executable is accepted, and the schedule comes to no end
@@ -82,7 +82,7 @@ replay_endless line a b c setup text status.Schedule is quiet why =
           (subst (λ (s : Setup). RefusesSchedule s text why.0) is.is_setup why.1);
       stays = reads.stays;
     })
-replay_endless line a b c setup text status.Memory is quiet why =
+replay_endless line a b c setup text status.NoMemory is quiet why =
     inl (cut_ends (files_named (Replays line)) a c (reads_then (files_named (Replays line)) a b c is.reads quiet))
 replay_endless line a b c setup text _ is quiet why = absurd why
 

@@ -35,7 +35,7 @@ abbrev pub MakesRounds : Line → ℕ → ℕ → Status → Type 0
 MakesRounds line before after status.Finished = after ≡ before + rounds_asked line
 MakesRounds line before after status.Unfinished = after ≡ before + rounds_asked line
 MakesRounds line before after status.WriteFault = after ≤ before + rounds_asked line
-MakesRounds line before after status.Memory = after ≤ before + rounds_asked line
+MakesRounds line before after status.NoMemory = after ≤ before + rounds_asked line
 MakesRounds line before after status.TooLarge = after ≤ before + rounds_asked line
 MakesRounds line before after _ = after ≡ before
 

@@ -423,7 +423,7 @@ EndsBy files image memo list before after status.Image = image
 EndsBy files image memo list before after status.Memo = memo
 EndsBy files image memo list before after status.EditList = list
 EndsBy files image memo list before after status.ReadFault = OneUnread files before after
-EndsBy files image memo list before after status.Memory = SomeRead files before after
+EndsBy files image memo list before after status.NoMemory = SomeRead files before after
 EndsBy files image memo list before after status.TooLarge = OneTooLarge files before after
 EndsBy files image memo list before after _ = ⊥
 
@@ -438,7 +438,7 @@ abbrev pub RoundsEnd : Line → World → World → Status → Type 0
 RoundsEnd line before after status.Finished = IsDone line true before after
 RoundsEnd line before after status.Unfinished = IsDone line false before after
 RoundsEnd line before after status.WriteFault = IsUnprinted line before after ⊎ IsUnkept line before after
-RoundsEnd line before after status.Memory = IsCutShort line before after
+RoundsEnd line before after status.NoMemory = IsCutShort line before after
 RoundsEnd line before after status.TooLarge = IsTooLargeToKeep line before after
 RoundsEnd line before after _ = ⊥
 
@@ -502,7 +502,7 @@ pub record DoesNothing (before after : World) : Type 0 where
 -- How a call may end: if the arguments aren't accepted, it does nothing; a command line ends before it prints anything,
 -- or later.
 abbrev pub Ends : Option Line → World → World → Status → Type 0
-Ends None before after s = ((s ≡ status.Words) ⊎ (s ≡ status.Memory)) × DoesNothing before after
+Ends None before after s = ((s ≡ status.Words) ⊎ (s ≡ status.NoMemory)) × DoesNothing before after
 Ends (Some line) before after s = EndsEarly line before after s ⊎ EndsLate line before after s
 
 -- An exit status is the number of a status by which the call may end.

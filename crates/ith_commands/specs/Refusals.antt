@@ -27,38 +27,38 @@ WhyUnread files before after s = EndsBy files ⊥ ⊥ ⊥ before after s
 -- Why no setup was made of an executable.
 abbrev pub WhyNoSetup : List ℕ → Status → Type 0
 WhyNoSetup elf status.Image = is_image elf ≡ false
-WhyNoSetup elf status.Memory = ⊤
+WhyNoSetup elf status.NoMemory = ⊤
 WhyNoSetup elf _ = ⊥
 
 -- Why a memo gave no history.
 abbrev pub WhyNoHistory : List ℕ → Status → Type 0
 WhyNoHistory memo status.Memo = (why : MemoRefusal) × (reading memo ≡ Err why)
-WhyNoHistory memo status.Memory = ⊤
+WhyNoHistory memo status.NoMemory = ⊤
 WhyNoHistory memo _ = ⊥
 
 -- Why edit lists made no inputs of a first input: which of them is the first that is refused.
 abbrev pub WhyUnedited : List ℕ → List (List ℕ) → Status → Type 0
 WhyUnedited first lists status.EditList = (place : ℕ) × (why : Refusal) × IsFirstRefused first lists place why
-WhyUnedited first lists status.Memory = ⊤
+WhyUnedited first lists status.NoMemory = ⊤
 WhyUnedited first lists _ = ⊥
 
 -- Why the text of a schedule gave no threads: a token is the first that encodes none.
 abbrev pub WhyNoThreads : List ℕ → Status → Type 0
 WhyNoThreads text status.Schedule = (number : ℕ) × Says text (Err number)
-WhyNoThreads text status.Memory = ⊤
+WhyNoThreads text status.NoMemory = ⊤
 WhyNoThreads text _ = ⊥
 
 -- Why the text of a schedule came to no end from scratch: it is refused.
 abbrev pub WhyUnreplayed : Setup → List ℕ → Status → Type 0
 WhyUnreplayed setup text status.Schedule = (why : ScheduleRefusal) × RefusesSchedule setup text why
-WhyUnreplayed setup text status.Memory = ⊤
+WhyUnreplayed setup text status.NoMemory = ⊤
 WhyUnreplayed setup text _ = ⊥
 
 -- Why a plan was cut short after the rounds that were found, and what was printed: their reports, or if printing
 -- failed, the first of these and a part of the next one.
 abbrev pub WhyCutShort : Plan → List Found → World → World → Status → Type 0
 WhyCutShort p found before after status.WriteFault = IsPrintedInPart (texts_of p found) before after
-WhyCutShort p found before after status.Memory = Prints before after (concat (texts_of p found))
+WhyCutShort p found before after status.NoMemory = Prints before after (concat (texts_of p found))
 WhyCutShort p found before after _ = ⊥
 
 -- This many workers made the first rounds of a plan, from none to all of them; why no more was done, and what was
@@ -75,7 +75,7 @@ pub record IsPlayedInPart (workers : ℕ) (p : Plan) (before after : World) (ear
 abbrev pub WhyUnprinted : List ℕ → World → World → Status → Type 0
 WhyUnprinted text before after status.WriteFault =
     Rose before.print_faults after.print_faults × ((count : ℕ) × Prints before after (take count text))
-WhyUnprinted text before after status.Memory = Stays before after
+WhyUnprinted text before after status.NoMemory = Stays before after
 WhyUnprinted text before after _ = ⊥
 
 -- This content was written to the file of this name, and nothing else changed.
@@ -103,7 +103,7 @@ pub record IsTooLong (content : List ℕ) (before after : World) : Type 0 where
 -- Why a memo of this content wasn't written.
 abbrev pub WhyUnkept : Text → List ℕ → World → World → Status → Type 0
 WhyUnkept name content before after status.WriteFault = FailsToKeep name content before after
-WhyUnkept name content before after status.Memory = Stays before after
+WhyUnkept name content before after status.NoMemory = Stays before after
 WhyUnkept name content before after status.TooLarge = IsTooLong content before after
 WhyUnkept name content before after _ = ⊥
 

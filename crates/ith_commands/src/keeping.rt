@@ -27,7 +27,7 @@ fn put_memo<H: Host>(alloc: Global, host: &mut H, name: &str, bytes: &[u8]) -> R
             host.complain(&name_line(alloc, "write ", name));
             Err(Status::WriteFault)
         }
-        Put::Memory => Err(Status::Memory),
+        Put::NoMemory => Err(Status::NoMemory),
     }
 }
 
@@ -52,6 +52,6 @@ pub fn write_memo<H: Host>(
             host.complain(&long_memo_line(alloc, length));
             Err(Status::TooLarge)
         }
-        Err(WriteError::NoMemory) => Err(Status::Memory),
+        Err(WriteError::NoMemory) => Err(Status::NoMemory),
     }
 }

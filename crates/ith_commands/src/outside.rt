@@ -37,7 +37,7 @@ pub fn read_file<H: Host>(
             host.complain(&name_line(alloc, "too large ", name));
             Err(Status::TooLarge)
         }
-        Got::Memory => Err(Status::Memory),
+        Got::NoMemory => Err(Status::NoMemory),
     }
 }
 
@@ -56,6 +56,6 @@ pub fn print_text<H: Host>(alloc: Global, host: &mut H, text: &[u8]) -> Result<(
             host.complain(&name_line(alloc, "write ", "output"));
             Err(Status::WriteFault)
         }
-        Printed::Memory => Err(Status::Memory),
+        Printed::NoMemory => Err(Status::NoMemory),
     }
 }

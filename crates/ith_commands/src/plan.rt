@@ -97,7 +97,7 @@ pub fn set_up<H: Host>(
             host.complain(&image_line(alloc, refusal));
             Err(Status::Image)
         }
-        Err(LoadError::NoMemory) => Err(Status::Memory),
+        Err(LoadError::NoMemory) => Err(Status::NoMemory),
     }
 }
 
@@ -113,7 +113,7 @@ fn recall<H: Host>(alloc: Global, host: &mut H, memo: &[u8]) -> Result<History, 
             host.complain(&memo_line(alloc, refusal));
             Err(Status::Memo)
         }
-        Err(ReadError::NoMemory) => Err(Status::Memory),
+        Err(ReadError::NoMemory) => Err(Status::NoMemory),
     }
 }
 
@@ -150,7 +150,7 @@ fn edit<H: Host>(
             host.complain(&edits_line(alloc, names.get(list), line, why));
             Err(Status::EditList)
         }
-        Err(InputsError::NoMemory) => Err(Status::Memory),
+        Err(InputsError::NoMemory) => Err(Status::NoMemory),
     }
 }
 

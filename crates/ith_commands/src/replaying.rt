@@ -40,7 +40,7 @@ fn threads_of<H: Host>(alloc: Global, host: &mut H, text: &[u8]) -> Result<Vec<u
             host.complain(&schedule_line(alloc, "token", number));
             Err(Status::Schedule)
         }
-        Err(ParseError::NoMemory) => Err(Status::Memory),
+        Err(ParseError::NoMemory) => Err(Status::NoMemory),
     }
 }
 
@@ -89,7 +89,7 @@ fn outcome_of<H: Host>(
             host.complain(INCOMPLETE);
             Err(Status::Schedule)
         }
-        Err(ReplayError::NoMemory) => Err(Status::Memory),
+        Err(ReplayError::NoMemory) => Err(Status::NoMemory),
     }
 }
 

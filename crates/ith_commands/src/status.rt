@@ -3,7 +3,7 @@
 ghost use Rattle.std.specs.Prelude.{◌≡◌};
 ghost use Rattle.rerun_spec.specs.Reports as reports;
 ghost use Rattle.ith_commands.specs.Statuses.{code_of};
-ghost use Rattle.ith_commands.specs.declared.status.Status.TheVariants.{Memory};
+ghost use Rattle.ith_commands.specs.declared.status.Status.TheVariants.{NoMemory};
 
 use machine_spec::End;
 use std::alloc::{AllocError, AllocFailed};
@@ -30,7 +30,7 @@ pub enum Status {
     /// 7: printing failed, or writing the memo.
     WriteFault,
     /// 8: the host's memory ran out.
-    Memory,
+    NoMemory,
     /// 9: a file that the command line names is longer than its limit, or the memo to write would be.
     TooLarge,
     /// 10: the schedule to replay is refused.
@@ -53,7 +53,7 @@ impl Status {
             Status::EditList => 5,
             Status::ReadFault => 6,
             Status::WriteFault => 7,
-            Status::Memory => 8,
+            Status::NoMemory => 8,
             Status::TooLarge => 9,
             Status::Schedule => 10,
             Status::Untrue => 11,
@@ -62,18 +62,18 @@ impl Status {
 }
 
 impl From<AllocError> for Status {
-    ghost from_gives = { λ _ status. status ≡ Memory };
+    ghost from_gives = { λ _ status. status ≡ NoMemory };
 
     fn from(_error: AllocError) -> Status {
-        Status::Memory
+        Status::NoMemory
     }
 }
 
 impl<T: Drop> From<AllocFailed<T>> for Status {
-    ghost from_gives = { λ _ status. status ≡ Memory };
+    ghost from_gives = { λ _ status. status ≡ NoMemory };
 
     fn from(_error: AllocFailed<T>) -> Status {
-        Status::Memory
+        Status::NoMemory
     }
 }
 

@@ -14,7 +14,7 @@ pub enum Got {
     /// The file is longer than the limit.
     TooLong,
     /// There was no memory for the bytes.
-    Memory,
+    NoMemory,
 }
 
 /// How a write ended.
@@ -25,7 +25,7 @@ pub enum Put {
     /// The host's write failed, and nothing is known of the file.
     Failed,
     /// There was no memory, and nothing was written.
-    Memory,
+    NoMemory,
 }
 
 /// How a print ended.
@@ -36,7 +36,7 @@ pub enum Printed {
     /// The host's print failed, and some of the first bytes may have been printed.
     Failed,
     /// There was no memory, and nothing was printed.
-    Memory,
+    NoMemory,
 }
 
 /// The outside of the program.
@@ -72,7 +72,7 @@ pub trait Host {
         ensures failed { result ≡ Put.Failed → Rose ((world self.old).write_faults name.now)
             ((world self.new).write_faults name.now) }
         ensures unstated { result ≡ Put.Failed → (world self.new).files name.now ≡ None }
-        ensures memory { result ≡ Put.Memory → Stays (world self.old) (world self.new) }
+        ensures memory { result ≡ Put.NoMemory → Stays (world self.old) (world self.new) }
         ensures others { StaysBut name.now (world self.old) (world self.new) }
         ensures asked { AsksNothing (world self.old) (world self.new) }
         ensures counts { NoneFell (world self.old) (world self.new) };
@@ -87,7 +87,7 @@ pub trait Host {
             → Rose (world self.old).print_faults (world self.new).print_faults }
         ensures part { result ≡ Printed.Failed
             → PrintedSome (world self.old) (world self.new) bytes.now }
-        ensures memory { result ≡ Printed.Memory → Stays (world self.old) (world self.new) }
+        ensures memory { result ≡ Printed.NoMemory → Stays (world self.old) (world self.new) }
         ensures is_stated { (world self.new).is_stated ≡ (world self.old).is_stated }
         ensures files { (world self.new).files ≡ (world self.old).files }
         ensures asked { AsksNothing (world self.old) (world self.new) }

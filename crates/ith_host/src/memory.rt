@@ -172,7 +172,7 @@ impl Host for MemHost {
             → Rose ((memory_world self.old).write_faults name.now)
             ((memory_world self.new).write_faults name.now) }
         ensures unstated { result ≡ Put.Failed → (memory_world self.new).files name.now ≡ None }
-        ensures memory { result ≡ Put.Memory
+        ensures memory { result ≡ Put.NoMemory
             → Stays (memory_world self.old) (memory_world self.new) }
         ensures others { StaysBut name.now (memory_world self.old) (memory_world self.new) }
         ensures asked { AsksNothing (memory_world self.old) (memory_world self.new) }
@@ -187,11 +187,11 @@ impl Host for MemHost {
             String::from_str(self.alloc, name),
             Vec::from_slice(self.alloc, bytes),
         ) else {
-            return Put::Memory;
+            return Put::NoMemory;
         };
         match self.files.insert(name, content) {
             Ok(_) => Put::Ok,
-            Err(_) => Put::Memory,
+            Err(_) => Put::NoMemory,
         }
     }
 
@@ -199,7 +199,7 @@ impl Host for MemHost {
     /// for them; no other is.
     fn print(&mut self, bytes: &[u8]) -> Printed
         ensures listed { fails_next self.old ≡ true
-            → (result ≡ Printed.Failed) ⊎ (result ≡ Printed.Memory) }
+            → (result ≡ Printed.Failed) ⊎ (result ≡ Printed.NoMemory) }
         ensures unlisted { result ≡ Printed.Failed → fails_next self.old ≡ true }
         ensures went_out { result ≡ Printed.Failed
             → self.new.printed.items ≡ self.old.printed.items ++ take self.old.part bytes.now }
@@ -216,7 +216,7 @@ impl Host for MemHost {
             → Rose (memory_world self.old).print_faults (memory_world self.new).print_faults }
         ensures part { result ≡ Printed.Failed
             → PrintedSome (memory_world self.old) (memory_world self.new) bytes.now }
-        ensures memory { result ≡ Printed.Memory
+        ensures memory { result ≡ Printed.NoMemory
             → Stays (memory_world self.old) (memory_world self.new) }
         ensures is_stated { (memory_world self.new).is_stated ≡ (memory_world self.old).is_stated }
         ensures files { (memory_world self.new).files ≡ (memory_world self.old).files }
@@ -230,7 +230,7 @@ impl Host for MemHost {
             bytes
         };
         if self.printed.extend_from_slice(out).is_err() {
-            return Printed::Memory;
+            return Printed::NoMemory;
         }
         if fails {
             self.print_faults = self.print_faults.saturating_add(1);
@@ -269,7 +269,7 @@ fn take_content(content: &[u8], limit: u64, into: &mut Vec<u8>) -> Got
     }
     match into.extend_from_slice(content) {
         Ok(()) => Got::Ok,
-        Err(_) => Got::Memory,
+        Err(_) => Got::NoMemory,
     }
 }
 

@@ -99,7 +99,7 @@ pub fn read_to_limit<S: Read>(source: &mut FaultCounter<S>, limit: u64, into: &m
             Ok(count) => {
                 if into.extend_from_slice(&piece[..count]).is_err() {
                     into.clear();
-                    return Got::Memory;
+                    return Got::NoMemory;
                 }
             }
             Err(_) => {

@@ -122,13 +122,13 @@ record IsFree (files : List Named) (image memo list : Type 0) (before : World) :
 early :
     (files : List Named) (image memo list : Type 0) (before after : World) (s : Status)
     → IsFree files image memo list before → OfNone (FailedToRead before after) files
-    → EndsBy files image memo list before after s → code_of s ≡ code_of status.Memory
+    → EndsBy files image memo list before after s → code_of s ≡ code_of status.NoMemory
 early files image memo list before after status.Image free none ends = absurd (free.takes_image ends)
 early files image memo list before after status.Memo free none ends = absurd (free.takes_memo ends)
 early files image memo list before after status.EditList free none ends = absurd (free.takes_lists ends)
 early files image memo list before after status.ReadFault free none ends =
     absurd (none_stops (FailedToRead before after) files before after none ends.stops)
-early files image memo list before after status.Memory free none ends = refl
+early files image memo list before after status.NoMemory free none ends = refl
 early files image memo list before after status.TooLarge free none ends =
     absurd (none_stops (IsLong before) files before after free.short ends.stops)
 early files image memo list before after _ free none ends = absurd ends
@@ -141,7 +141,7 @@ completed :
 completed line before after answer status.Finished is none ends = inl is
 completed line before after answer status.Unfinished is none ends = inr (inl is)
 completed line before after answer status.WriteFault is none ends = absurd (unfailing line before after none ends)
-completed line before after answer status.Memory is none ends = inr (inr (inl is))
+completed line before after answer status.NoMemory is none ends = inr (inr (inl is))
 completed line before after answer status.TooLarge is none ends = inr (inr (inr (is, ends)))
 completed line before after answer _ is none ends = absurd ends
 

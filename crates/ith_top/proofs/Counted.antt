@@ -41,7 +41,7 @@ counted_none line a b count status.Image ends = refl
 counted_none line a b count status.Memo ends = refl
 counted_none line a b count status.EditList ends = refl
 counted_none line a b count status.ReadFault ends = refl
-counted_none line a b count status.Memory ends = omega arith
+counted_none line a b count status.NoMemory ends = omega arith
 counted_none line a b count status.TooLarge ends = omega arith
 counted_none line a b count _ ends = absurd ends
 
@@ -70,8 +70,8 @@ counted_some :
     → MakesRounds line earlier.rounds later.rounds s
 counted_some line name workers p a b earlier later status.WriteFault count why =
     some_counted line name workers p a b earlier later status.WriteFault count why
-counted_some line name workers p a b earlier later status.Memory count why =
-    some_counted line name workers p a b earlier later status.Memory count why
+counted_some line name workers p a b earlier later status.NoMemory count why =
+    some_counted line name workers p a b earlier later status.NoMemory count why
 counted_some line name workers p a b earlier later status.TooLarge count why =
     some_counted line name workers p a b earlier later status.TooLarge count why
 counted_some line name workers p a b earlier later _ count why =

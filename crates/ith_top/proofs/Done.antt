@@ -94,7 +94,7 @@ cut_short line a b c p found status.WriteFault ready none are cause =
             (concat (take cause.whole (texts_of p found)) ++ take cause.count cause.next) ready.reads.stays cause.prints;
       };
     })
-cut_short line a b c p found status.Memory ready none are cause =
+cut_short line a b c p found status.NoMemory ready none are cause =
     record {
       asked = none ∙ ready.reads.asked;
       has = rounds_in line a b p found ready are;
@@ -129,7 +129,7 @@ unkept line a b m c p found name status.WriteFault ready none are all later by p
       others = λ other away. cause.others other away
           ∙ ap (λ (files : Text → Option (List ℕ)). files other) printed.files;
     })
-unkept line a b m c p found name status.Memory ready none are all later by prints cause =
+unkept line a b m c p found name status.NoMemory ready none are all later by prints cause =
     record {
       asked = none ∙ ready.reads.asked;
       has = rounds_in line a b p found ready are;

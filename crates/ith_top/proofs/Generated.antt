@@ -282,12 +282,12 @@ pub unprinted_made :
     → later.rounds ≤ earlier.rounds + 2 → WhyUnprinted text a b s
     → MakesRounds (Generates line) earlier.rounds later.rounds s
 unprinted_made line text a b earlier later status.WriteFault most why = most
-unprinted_made line text a b earlier later status.Memory most why = most
+unprinted_made line text a b earlier later status.NoMemory most why = most
 unprinted_made line text a b earlier later _ most why = absurd why
 
 -- the host's memory ran out
 pub generate_cut : (line : GenerateLine) (a b : World) → AsksNothing a b → Stays a b
-    → Ends (Some (Generates line)) a b status.Memory
+    → Ends (Some (Generates line)) a b status.NoMemory
 generate_cut line a b none stays = inl (unbegun [] a b (none ∙ sym (append-nil a.asked)) stays)
 
 -- not all was printed
@@ -307,5 +307,5 @@ generate_unprinted line a b earlier later text exits status.WriteFault none is w
       all = is.all;
       part = in_part whole a a b (stays_same a) (none_fell_same a) cause;
     })
-generate_unprinted line a b earlier later text exits status.Memory none is why = generate_cut line a b none why
+generate_unprinted line a b earlier later text exits status.NoMemory none is why = generate_cut line a b none why
 generate_unprinted line a b earlier later text exits _ none is why = absurd why

@@ -255,7 +255,7 @@ pub going_cut :
     (rest : List (List ℕ)) (exit : Bool) (earlier later : Work)
     → IsGoing b workers inputs a w t u now rest exit
     → later.rounds + length rest ≤ earlier.rounds + length inputs + 1 → later.rounds ≤ earlier.rounds + length inputs
-    → IsPlayedInPart workers (of_line b inputs) a w earlier later status.Memory
+    → IsPlayedInPart workers (of_line b inputs) a w earlier later status.NoMemory
 going_cut b workers inputs a w t u now rest exit earlier later going count most =
     record {
       found = going.found;
@@ -331,7 +331,7 @@ going_unprinted b workers inputs a w v t u o now input rest exit text ended next
         prints = subst (λ (ts : List (List ℕ)). Prints a v (concat ts ++ take cause.1.0 text)) (sym front) printed;
       };
     }
-going_unprinted b workers inputs a w v t u o now input rest exit text ended next earlier later status.Memory going one count most cause =
+going_unprinted b workers inputs a w v t u o now input rest exit text ended next earlier later status.NoMemory going one count most cause =
     let part = going_cut b workers inputs a w t u now (input ∷ rest) exit earlier later going count most in
     record {
       found = part.found;

@@ -67,22 +67,22 @@ abbrev pub IsCompleted : Line → World → World → ℕ → Type 0
 IsCompleted line before after answer =
     (answer ≡ code_of status.Finished)
     ⊎ ((answer ≡ code_of status.Unfinished)
-    ⊎ ((answer ≡ code_of status.Memory)
+    ⊎ ((answer ≡ code_of status.NoMemory)
     ⊎ ((answer ≡ code_of status.TooLarge) × IsTooLargeToKeep line before after)))
 
 -- The text of a `replay` or `gen` command was printed whole, or the host's memory ran out.
 abbrev pub IsReported : ℕ → Type 0
 IsReported answer =
-    (answer ≡ code_of status.Finished) ⊎ ((answer ≡ code_of status.Unfinished) ⊎ (answer ≡ code_of status.Memory))
+    (answer ≡ code_of status.Finished) ⊎ ((answer ≡ code_of status.Unfinished) ⊎ (answer ≡ code_of status.NoMemory))
 
 -- The text of a `show`, `why` or `races` command was printed whole, or the host's memory ran out.
 abbrev pub IsListed : ℕ → Type 0
-IsListed answer = (answer ≡ code_of status.Finished) ⊎ (answer ≡ code_of status.Memory)
+IsListed answer = (answer ≡ code_of status.Finished) ⊎ (answer ≡ code_of status.NoMemory)
 
 -- The verdict of a memo was printed whole, or the host's memory ran out.
 abbrev pub IsJudged : ℕ → Type 0
 IsJudged answer =
-    (answer ≡ code_of status.Finished) ⊎ ((answer ≡ code_of status.Untrue) ⊎ (answer ≡ code_of status.Memory))
+    (answer ≡ code_of status.Finished) ⊎ ((answer ≡ code_of status.Untrue) ⊎ (answer ≡ code_of status.NoMemory))
 
 -- If its files are stated and accepted and the host fails at no call, a command line is done, or the host's memory ran
 -- out.

@@ -126,7 +126,7 @@ fn do_line<R: Threads + Wait + Sync, H: Host, G: Gate + Sync>(
             host.complain(text.as_slice());
             Err(Status::Words)
         }
-        Err(LineFault::Memory) => Err(Status::Memory),
+        Err(LineFault::NoMemory) => Err(Status::NoMemory),
     }
 }
 
@@ -145,9 +145,9 @@ pub fn status_of<R: Threads + Wait + Sync, H: Host, G: Gate + Sync>(
     match do_line(rt, alloc, words, host, gate) {
         Ok(true) => Status::Finished,
         Ok(false) => Status::Unfinished,
-        Err(Status::Memory) => {
+        Err(Status::NoMemory) => {
             host.complain(NO_MEMORY);
-            Status::Memory
+            Status::NoMemory
         }
         Err(status) => status,
     }

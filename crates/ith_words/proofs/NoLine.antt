@@ -20,7 +20,7 @@ pub no_line :
     (words : List Text) (error : Error) (why : LineFault)
     → HasKind (fault_of command_line words) error → WhyFault error why → WhyNoLine words why
 unfolding line_of
-no_line words error fault.Memory has is = tt
+no_line words error fault.NoMemory has is = tt
 no_line words error (fault.Refused text) (inl memory) is = absurd (is memory)
 no_line words error (fault.Refused text) (inr among) is =
     none-among (kind_of error) (fault_of command_line words) _ among

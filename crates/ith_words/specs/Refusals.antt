@@ -10,9 +10,9 @@ use Rattle.ith_words.specs.Words.{Text, line_of}
 -- The fault for an error of the parser: the arguments are refused, unless the host's memory ran out.
 abbrev pub WhyFault : Error → LineFault → Type 0
 WhyFault error (fault.Refused text) = kind_of error ≢ OutOfMemory
-WhyFault error fault.Memory = kind_of error ≡ OutOfMemory
+WhyFault error fault.NoMemory = kind_of error ≡ OutOfMemory
 
 -- Why arguments are no command line.
 abbrev pub WhyNoLine : List Text → LineFault → Type 0
 WhyNoLine words (fault.Refused text) = line_of words ≡ None
-WhyNoLine words fault.Memory = ⊤
+WhyNoLine words fault.NoMemory = ⊤

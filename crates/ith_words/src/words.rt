@@ -23,7 +23,7 @@ pub enum LineFault {
     /// They aren't accepted, or request help: the text to show.
     Refused(Vec<u8>),
     /// The host's memory ran out.
-    Memory,
+    NoMemory,
 }
 
 /// The text to show if arguments are refused: `words: ` and why. It is cut short if the host's memory runs out.
@@ -40,7 +40,7 @@ fn fault_by(alloc: Global, error: Error) -> LineFault
     ensures { WhyFault error result }
 {
     if error.kind() == ErrorKind::OutOfMemory {
-        return LineFault::Memory;
+        return LineFault::NoMemory;
     }
     LineFault::Refused(match error.to_string(alloc) {
         Ok(why) => refusal(alloc, why.as_str().trim_end()),
@@ -59,7 +59,7 @@ fn matches_given<'a>(alloc: Global, words: &'a [String]) -> Result<ArgMatches<'a
 {
     let command = match command_line(alloc) {
         Ok(command) => command,
-        Err(_) => return Err(LineFault::Memory),
+        Err(_) => return Err(LineFault::NoMemory),
     };
     match command.try_get_matches_from(words) {
         Ok(given) => Ok(given),
@@ -205,7 +205,7 @@ fn line_found<'a>(alloc: Global, given: &ArgMatches<'a>) -> Result<Option<Line<'
 ///
 /// # Errors
 ///
-/// `Refused` if the arguments aren't accepted or request help, and `Memory` if the host's memory ran out.
+/// `Refused` if the arguments aren't accepted or request help, and `NoMemory` if the host's memory ran out.
 #[tactic(auto, unfolding(crate::specs::Words::line_of))]
 pub fn line_of<'a>(alloc: Global, words: &'a [String]) -> Result<Line<'a>, LineFault>
     ensures accepted { IfOk result (λ said. line.line_of (map string_bytes words.entry.now)
@@ -220,6 +220,6 @@ pub fn line_of<'a>(alloc: Global, words: &'a [String]) -> Result<Line<'a>, LineF
         Ok(Some(line)) => Ok(line),
         // the parser accepts no other command
         Ok(None) => Err(LineFault::Refused(refusal(alloc, "no command"))),
-        Err(_) => Err(LineFault::Memory),
+        Err(_) => Err(LineFault::NoMemory),
     }
 }

@@ -36,5 +36,5 @@ fn is_shown(rt: &HostRuntime) -> bool {
 /// The exit status if memory ran out while the arguments were collected.
 fn without_memory<H: Host>(host: &mut H) -> ExitCode {
     host.complain(b"no memory");
-    ExitCode::from(Status::Memory.code())
+    ExitCode::from(Status::NoMemory.code())
 }

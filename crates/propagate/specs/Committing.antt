@@ -9,7 +9,7 @@ use Rattle.thunk_run.specs.declared.job.Run.{Run}
 use Rattle.round_spec.specs.declared.events.Event.TheVariants.{Commit, GiveBack}
 use Rattle.round_spec.specs.Rounds.{RoundState, is_finished, is_in_flight, taken_when, happens}
 use Rattle.propagate.specs.declared.events.Committed.{Committed}
-use Rattle.propagate.specs.declared.events.Committed.TheVariants.{Done, Stale, Memory}
+use Rattle.propagate.specs.declared.events.Committed.TheVariants.{Done, Stale, NoMemory}
 
 -- An executed step can be committed: the round isn't finished, the step ran on the round's page map with its fuel, its
 -- thread is in flight, and its record fits.
@@ -35,14 +35,14 @@ Commits old run Done new =
 Commits old run (Stale back) new =
     (CanCommit old (arc_value run.frame) (arc_value run.rec) → ⊥) × (back ≡ run)
     × (new ≡ happens old (GiveBack (arc_value run.rec).thread))
-Commits old run (Memory back) new =
+Commits old run (NoMemory back) new =
     CanCommit old (arc_value run.frame) (arc_value run.rec) × (back ≡ run) × (new ≡ old)
 
 -- How many entries a commit appends.
 abbrev pub entries_of : Committed → ℕ
 entries_of Done = 1
 entries_of (Stale back) = 0
-entries_of (Memory back) = 0
+entries_of (NoMemory back) = 0
 
 -- A round of the same setup, based on the same history, with so many more entries.
 pub record Continues (n : ℕ) (old new : RoundState) : Type 0 where

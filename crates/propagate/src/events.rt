@@ -35,7 +35,7 @@ pub enum Committed {
     /// if it was, its step was discarded.
     Stale(Run),
     /// The host's memory ran out. The round is as before, and the step is returned.
-    Memory(Run),
+    NoMemory(Run),
 }
 
 /// Applies a record, and appends its entry with it.
@@ -289,7 +289,7 @@ impl Round {
         }
         match self.commit_executed(&run) {
             Ok(()) => Committed::Done,
-            Err(_) => Committed::Memory(run),
+            Err(_) => Committed::NoMemory(run),
         }
     }
 

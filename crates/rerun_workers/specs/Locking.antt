@@ -34,7 +34,7 @@ AssignsAfter w (task.Begin job) new =
     (pick_of w ≡ pick.Run job.thread) × IsJobOf w.machine job.thread job × (new ≡ happens w (Take job.thread))
 AssignsAfter w task.Hold new = (pick_of w ≡ pick.Hold) × (new ≡ w)
 AssignsAfter w task.Over new = (pick_of w ≡ pick.Over) × (new ≡ w)
-AssignsAfter w task.Memory new = new ≡ happens w Stop
+AssignsAfter w task.NoMemory new = new ≡ happens w Stop
 
 -- The task of a worker: records are reused as long as that is picked, and then comes what is picked.
 abbrev pub Assigns : RoundState → Task → RoundState → Type 0
@@ -45,28 +45,28 @@ abbrev pub BeginsNothing : Task → Type 0
 BeginsNothing (task.Begin job) = ⊥
 BeginsNothing task.Hold = ⊤
 BeginsNothing task.Over = ⊤
-BeginsNothing task.Memory = ⊤
+BeginsNothing task.NoMemory = ⊤
 
 -- How many steps a task assigns.
 abbrev pub begun_by : Task → ℕ
 begun_by (task.Begin job) = 1
 begun_by task.Hold = 0
 begun_by task.Over = 0
-begun_by task.Memory = 0
+begun_by task.NoMemory = 0
 
 -- A worker that is assigned a step has executed, or holds, fewer steps than it was assigned.
 abbrev pub IsReady : Task → ℕ → ℕ → Type 0
 IsReady (task.Begin job) ran taken = ran < taken
 IsReady task.Hold ran taken = ⊤
 IsReady task.Over ran taken = ⊤
-IsReady task.Memory ran taken = ⊤
+IsReady task.NoMemory ran taken = ⊤
 
 -- A step to execute has this page map and this fuel.
 abbrev pub BeginsIn : Frame → Task → Type 0
 BeginsIn f (task.Begin job) = arc_value job.frame ≡ f
 BeginsIn f task.Hold = ⊤
 BeginsIn f task.Over = ⊤
-BeginsIn f task.Memory = ⊤
+BeginsIn f task.NoMemory = ⊤
 
 -- A round after a taken step was discarded and the round was stopped.
 abbrev pub given_up : RoundState → ℕ → RoundState
@@ -80,7 +80,7 @@ Lands old run outcome.Done new =
 Lands old run (outcome.Stale back) new =
     (CanCommit old (arc_value run.frame) (arc_value run.rec) → ⊥) × (back ≡ run)
     × (new ≡ happens old (GiveBack (arc_value run.rec).thread))
-Lands old run (outcome.Memory back) new =
+Lands old run (outcome.NoMemory back) new =
     CanCommit old (arc_value run.frame) (arc_value run.rec) × (back ≡ run)
     × (new ≡ given_up old (arc_value run.rec).thread)
 
@@ -88,13 +88,13 @@ Lands old run (outcome.Memory back) new =
 abbrev pub steps_by : CommitOutcome → ℕ
 steps_by outcome.Done = 1
 steps_by (outcome.Stale back) = 0
-steps_by (outcome.Memory back) = 0
+steps_by (outcome.NoMemory back) = 0
 
 -- A run that doesn't become an entry is returned unchanged.
 abbrev pub ReturnsRun : Run → CommitOutcome → Type 0
 ReturnsRun run outcome.Done = ⊤
 ReturnsRun run (outcome.Stale back) = back ≡ run
-ReturnsRun run (outcome.Memory back) = back ≡ run
+ReturnsRun run (outcome.NoMemory back) = back ≡ run
 
 -- A worker's steps rose by as many as the round's entries.
 abbrev pub Counts : ℕ → RoundState → ℕ → RoundState → Type 0

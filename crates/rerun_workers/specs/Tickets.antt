@@ -30,7 +30,7 @@ abbrev pub IsTicketFor : Option TicketView → Task → Type 0
 IsTicketFor ticket (task.Begin job) = IsTicketOf ticket job
 IsTicketFor ticket task.Hold = ⊤
 IsTicketFor ticket task.Over = ⊤
-IsTicketFor ticket task.Memory = ⊤
+IsTicketFor ticket task.NoMemory = ⊤
 
 -- There is a ticket, and it is for the job of the last ticket of a thread.
 abbrev pub IsLastOf : IssuerView → ℕ → Option TicketView → Type 0

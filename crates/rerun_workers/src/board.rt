@@ -334,7 +334,7 @@ impl<J: Naming> Board<J> {
 
     /// Wakes all if memory ran out when a run was committed.
     fn wake_all_if_out_of_memory(&self, outcome: &CommitOutcome) {
-        if matches!(outcome, CommitOutcome::Memory(_)) {
+        if matches!(outcome, CommitOutcome::NoMemory(_)) {
             self.changed.notify_all();
         }
     }

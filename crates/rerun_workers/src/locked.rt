@@ -40,7 +40,7 @@ pub enum Task {
     /// Nothing more: the round is finished.
     Over,
     /// Nothing more: the host's memory ran out, and the round was stopped.
-    Memory,
+    NoMemory,
 }
 
 /// What came of a run that a worker submitted.
@@ -54,7 +54,7 @@ pub enum CommitOutcome {
     Stale(Run),
     /// The host's memory ran out, and the run is returned. Its step was discarded, its thread is no longer in flight,
     /// and the round was stopped.
-    Memory(Run),
+    NoMemory(Run),
 }
 
 /// The round that workers make together, under their lock. The total of the ledger's book is the length of the
@@ -221,7 +221,7 @@ impl<J: Naming> Locked<J> {
             }
             Err(_) => {
                 round.stop();
-                Task::Memory
+                Task::NoMemory
             }
         }
     }
@@ -249,7 +249,7 @@ impl<J: Naming> Locked<J> {
                 Pick::Reuse(t) => {
                     let Ok(()) = self.reuse(pass, t) else {
                         self.stop();
-                        return Task::Memory;
+                        return Task::NoMemory;
                     };
                 }
                 Pick::Run(t) => {
@@ -322,9 +322,9 @@ impl<J: Naming> Locked<J> {
                 CommitOutcome::Done
             }
             Committed::Stale(run) => CommitOutcome::Stale(run),
-            Committed::Memory(run) => {
+            Committed::NoMemory(run) => {
                 give_up(round, run.rec.thread());
-                CommitOutcome::Memory(run)
+                CommitOutcome::NoMemory(run)
             }
         }
     }

@@ -81,7 +81,7 @@ fn make_step<J: Naming, R: Wait, G: Gate>(
                     true
                 }
                 CommitOutcome::Stale(_) => true,
-                CommitOutcome::Memory(_) => false,
+                CommitOutcome::NoMemory(_) => false,
             }
         }
         Err(_) => {

@@ -24,7 +24,7 @@ use Rattle.round_spec.proofs.Conditions.{happens-take, happens-commit_over, happ
 use Rattle.round_spec.proofs.Happening.{CanBegin, can_begin-parts, none_in_flight-none, still_in_flight}
 use Rattle.std.specs.declared.alloc.AllocError.{AllocError}
 use Rattle.propagate.specs.declared.events.Committed.{Committed}
-use Rattle.propagate.specs.declared.events.Committed.TheVariants.{Done, Stale, Memory}
+use Rattle.propagate.specs.declared.events.Committed.TheVariants.{Done, Stale, NoMemory}
 use Rattle.propagate.specs.Committing.{CanCommit, Commits}
 use Rattle.thunk_run.specs.Running.{IsRunOf}
 use Rattle.release_core.specs.Jobs.{IsJobOf}
@@ -198,7 +198,7 @@ jobs-commit w v run jobs Done kept does have =
     jobs-stay w v (Commit (arc_value run.rec).thread) jobs tt kept does.1 have
 jobs-commit w v run jobs (Stale back) kept does have =
     jobs-stay w v (GiveBack (arc_value run.rec).thread) jobs tt kept does.2 have
-jobs-commit w v run jobs (Memory back) kept does have = subst (λ (x : RoundState). HaveJobs x jobs) (sym does.2) have
+jobs-commit w v run jobs (NoMemory back) kept does have = subst (λ (x : RoundState). HaveJobs x jobs) (sym does.2) have
 
 -- at the start no thread is in flight
 pub jobs-none : (w : RoundState) (jobs : List (Option Job)) → length jobs ≡ 32 → w.in_flight ≡ none_in_flight → HaveJobs w jobs

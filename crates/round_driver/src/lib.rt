@@ -96,7 +96,7 @@ impl Driven {
         match self.round.commit(run) {
             Committed::Done => Ok(()),
             Committed::Stale(_) => unreachable!(),
-            Committed::Memory(_) => Err(AllocError),
+            Committed::NoMemory(_) => Err(AllocError),
         }
     }
 

@@ -8,7 +8,7 @@ fn no_words_are_refused(rt: HostRuntime) -> Result<(), Fail> {
     let refused = match line_of(rt.alloc(), &[]) {
         Ok(_said) => false,
         Err(LineFault::Refused(text)) => text.starts_with(b"words: "),
-        Err(LineFault::Memory) => false,
+        Err(LineFault::NoMemory) => false,
     };
     assert!(rt; refused);
     Ok(())

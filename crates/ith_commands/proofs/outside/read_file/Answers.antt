@@ -18,7 +18,7 @@ returns-in-TooLong-clause-refused g c =
     c.read.ensures.asked c.read.ensures.stays (c.read.ensures.too_long c.in-TooLong.is)
     c.complain-in-TooLong.ensures.asked c.complain-in-TooLong.ensures.stays
 
-pub returns-in-Memory-clause-refused : goal.returns-in-Memory-clause-refused
-returns-in-Memory-clause-refused g c =
+pub returns-in-NoMemory-clause-refused : goal.returns-in-NoMemory-clause-refused
+returns-in-NoMemory-clause-refused g c =
     let w = g.H.Host.world in let file : Named = record { name = c.args.name.now; most = c.args.most } in
     unbegun (file ∷ []) (w c.args.host.now) (w c.read.new.self) c.read.ensures.asked c.read.ensures.stays

@@ -8,7 +8,7 @@ use Rattle.propagate.specs.Executing.{Costs}
 use Rattle.round_driver.proofs.Jobs.{jobs-stay, jobs-commit, job-held, run-commits, run-counts, over-discards}
 use Rattle.propagate.proofs.Executing.{costs-nothing}
 use Rattle.round_driver.proofs.Driven.on_commit.Goals as goal
-use Rattle.round_driver.proofs.Driven.on_commit.Goals.{in-Done, in-Memory}
+use Rattle.round_driver.proofs.Driven.on_commit.Goals.{in-Done, in-NoMemory}
 
 pub returns-then-not-is_in_flight-clause-round : goal.returns-then-not-is_in_flight-clause-round
 returns-then-not-is_in_flight-clause-round c =
@@ -70,7 +70,7 @@ returns-clause-cost c =
           (λ (r : Result (Unit {0}) AllocError).
           OnOk r (Costs c.args.turns.now c.args.self.now.round c.execute.new.turns c.commit.new.self))
           (sym w.result-is) cost)
-      | in-Memory w ↦
+      | in-NoMemory w ↦
           subst
           (λ (r : Result (Unit {0}) AllocError).
           OnOk r (Costs c.args.turns.now c.args.self.now.round c.execute.new.turns c.commit.new.self))

@@ -74,18 +74,18 @@ invariant_of-self-in-Stale-1 g c =
           c.args.self.now.issuer c.commit_run.ensures.valid.in_order c.in-Stale.ensures.does.2 c.args.self.now.issued;
     }
 
-pub invariant_of-self-in-Memory : goal.invariant_of-self-in-Memory
-invariant_of-self-in-Memory g c =
+pub invariant_of-self-in-NoMemory : goal.invariant_of-self-in-NoMemory
+invariant_of-self-in-NoMemory g c =
     record {
       counted = search rules;
-      setup = c.give_up.ensures.same.setup ∙ c.in-Memory.ensures.same.setup ∙ c.args.self.now.setup;
-      past = c.give_up.ensures.same.past ∙ c.in-Memory.ensures.same.past ∙ c.args.self.now.past;
+      setup = c.give_up.ensures.same.setup ∙ c.in-NoMemory.ensures.same.setup ∙ c.args.self.now.setup;
+      past = c.give_up.ensures.same.past ∙ c.in-NoMemory.ensures.same.past ∙ c.args.self.now.past;
       watched = watched_on c.commit_run.new.round _ _ _ c.give_up.ensures.same
-          (watched_on c.args.self.now.round _ _ _ c.in-Memory.ensures.same c.args.self.now.watched);
+          (watched_on c.args.self.now.round _ _ _ c.in-NoMemory.ensures.same c.args.self.now.watched);
       counts = c.args.self.now.counts;
       follows =
           follows-given_up g.J.Naming.setup g.J.Naming.past c.commit_run.new.round c.give_up.new.round _
-          (subst (IsUnder g.J.Naming.setup g.J.Naming.past) (sym c.in-Memory.ensures.does.2)
+          (subst (IsUnder g.J.Naming.setup g.J.Naming.past) (sym c.in-NoMemory.ensures.does.2)
           (record {
             setup_is = c.args.self.now.setup;
             past_is = c.args.self.now.past;
@@ -95,7 +95,7 @@ invariant_of-self-in-Memory g c =
           }))
           c.give_up.ensures.events;
       issued =
-          let same = sym c.in-Memory.ensures.does.2 in
+          let same = sym c.in-NoMemory.ensures.does.2 in
           issued-given_up g.J.Naming.tickets c.commit_run.new.round c.give_up.new.round _ c.args.self.now.issuer
           (subst IsInOrder same c.commit_run.ensures.valid.in_order) c.give_up.ensures.events
           (subst (λ (w : RoundState). AreIssued g.J.Naming.tickets w c.args.self.now.issuer) same c.args.self.now.issued);
