@@ -1,4 +1,4 @@
--- What is left to prove of `last_number`.
+-- Answers to the goals that the check of `last_number` leaves open.
 use Rattle.std.proofs.Common.{◌≤◌, ◌∷◌, [], ◌++◌, ap, ◌∙◌, arith}
 use Rattle.std.specs.Option.{option_to_list}
 use Rattle.std.proofs.lemmas.List.Elements.{All-push, All-same}

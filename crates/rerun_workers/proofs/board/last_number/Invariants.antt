@@ -1,4 +1,4 @@
--- What holds at the loop of `last_number`.
+-- The invariant of the loop of `last_number`.
 use Rattle.std.specs.Prelude.{◌≡◌, ◌≤◌, ℕ, All, vec_len}
 use Rattle.rerun_workers.proofs.board.last_number.Given as goal
 

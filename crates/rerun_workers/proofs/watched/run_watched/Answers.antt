@@ -1,4 +1,4 @@
--- What is left to prove of `run_watched`.
+-- Answers to the goals that the check of `run_watched` leaves open.
 use Rattle.std.proofs.Common.{rules, ◌≡◌, ◌≤◌, ℕ, List, [], ◌∷◌, ◌++◌, Some, None, length, ap, sym, ◌∙◌, subst, arith}
 use Rattle.std.specs.Prelude.{All}
 use Rattle.std.specs.List.{last_or}

@@ -1,4 +1,4 @@
--- Answers to the goals that the check leaves of `is_last`.
+-- Answers to the goals that the check of `is_last` leaves open.
 use Rattle.std.proofs.Common.{◌≡◌, ◌∙◌, ap, sym, subst, ℕ, zero, suc, slice_get, get_or, true, is_some, Some, None, List, [], ◌∷◌, Option, refl}
 use Rattle.std.proofs.lemmas.Bool.{eqb-true}
 use Rattle.thunk_run.specs.declared.job.Job.{Job}
