@@ -1,6 +1,6 @@
-//! The commands that make no round by workers: replays, audits, races, reasons, and listings of memos. And what all
-//! commands share: their files are read in the order of the command line, a plan of the rounds is made of them, texts are
-//! printed, memos are written, and each way to end has a status.
+//! The commands `replay`, `audit`, `races`, `why` and `show`, and what they share with `run`, `rerun` and `gen`: files
+//! are read in the order of the command line, a plan of the rounds is made of them, texts are printed, memos are
+//! written, and each way to end has a status.
 #![tactic(auto)]
 
 mod auditing;

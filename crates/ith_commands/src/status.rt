@@ -77,7 +77,7 @@ impl<T: Drop> From<AllocFailed<T>> for Status {
     }
 }
 
-/// Whether an end is an exit.
+/// Whether a machine ended by exit, as all do if a call is `Finished`.
 pub fn is_exit(ending: Option<End>) -> bool
     ensures { result ≡ reports.is_exit ending }
 {
