@@ -36,7 +36,11 @@ fn verdict_of<R: Threads + Sync>(
     Ok((verdict, text))
 }
 
-/// Does all that an `audit` command requests.
+/// Does all that an `audit` command requests. Returns true if the memo is honest.
+///
+/// # Errors
+///
+/// The status of the call, which is neither `Finished` nor `Unfinished`: `Untrue` if it isn't honest.
 pub fn audit<R: Threads + Sync, H: Host>(
     rt: &R,
     alloc: Global,

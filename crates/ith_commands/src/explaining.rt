@@ -109,7 +109,11 @@ fn text_of(
     reasons_text(alloc, &round)
 }
 
-/// Does all that a `why` command requests. Every turn that it executes is counted.
+/// Does all that a `why` command requests, and returns true. Every turn that it executes is counted.
+///
+/// # Errors
+///
+/// The status of the call, which is neither `Finished` nor `Unfinished`.
 pub fn explain<H: Host>(
     alloc: Global,
     host: &mut H,

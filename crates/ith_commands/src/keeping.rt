@@ -32,6 +32,10 @@ fn put_memo<H: Host>(alloc: Global, host: &mut H, name: &str, bytes: &[u8]) -> R
 }
 
 /// Writes the memo of a history to the file of this name.
+///
+/// # Errors
+///
+/// The status of the call, which is neither `Finished` nor `Unfinished`.
 pub fn write_memo<H: Host>(
     alloc: Global,
     host: &mut H,

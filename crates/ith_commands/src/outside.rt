@@ -42,6 +42,10 @@ pub fn read_file<H: Host>(
 }
 
 /// Prints a whole text.
+///
+/// # Errors
+///
+/// The status of the call, which is neither `Finished` nor `Unfinished`.
 #[tactic(auto, using(crate::proofs::Worlds::stays_trans, crate::proofs::Worlds::none_fell_trans, crate::proofs::Worlds::rose_then))]
 pub fn print_text<H: Host>(alloc: Global, host: &mut H, text: &[u8]) -> Result<(), Status>
     ensures printed { OnOk result (Prints (H.world host.old) (H.world host.new) text.now) }

@@ -238,6 +238,10 @@ pub fn from_scratch(setup: Setup, inputs: Inputs, asked: Asked) -> Plan
 
 /// The rounds that a `run` command requests. Its files are read, then the executable and then the edit lists are
 /// checked, all of them in order.
+///
+/// # Errors
+///
+/// The status of the call, which is neither `Finished` nor `Unfinished`.
 pub fn prepare<H: Host>(alloc: Global, host: &mut H, line: &RunLine<'_>) -> Result<Plan, Status>
     ensures plan { IfOk result (λ plan. IsPrepared (Runs (run_said line.now))
         (H.world host.old) (H.world host.new) (plan_said plan)) }
@@ -262,6 +266,10 @@ pub fn prepare<H: Host>(alloc: Global, host: &mut H, line: &RunLine<'_>) -> Resu
 
 /// The rounds that a `rerun` command requests. Its files are read, then the memo and then the edit lists are checked,
 /// all of them in order.
+///
+/// # Errors
+///
+/// The status of the call, which is neither `Finished` nor `Unfinished`.
 pub fn prepare_rerun<H: Host>(
     alloc: Global,
     host: &mut H,

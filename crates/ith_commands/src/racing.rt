@@ -17,7 +17,11 @@ use std::alloc::Global;
 /// The most races that are listed.
 pub const MOST_RACES: usize = 10_000;
 
-/// Does all that a `races` command requests.
+/// Does all that a `races` command requests, and returns true.
+///
+/// # Errors
+///
+/// The status of the call, which is neither `Finished` nor `Unfinished`.
 pub fn find_races<H: Host>(
     alloc: Global,
     host: &mut H,

@@ -131,7 +131,12 @@ fn text_of(alloc: Global, threads: &[u8], outcome: &Outcome) -> Result<Vec<u8>, 
     replayed(alloc, &data_of(entries.as_slice(), outcome))
 }
 
-/// Does all that a `replay` command requests. Every turn that it executes is counted.
+/// Does all that a `replay` command requests, and returns whether the replay ended by exit. Every turn that it executes
+/// is counted.
+///
+/// # Errors
+///
+/// The status of the call, which is neither `Finished` nor `Unfinished`.
 pub fn replay<H: Host>(
     alloc: Global,
     host: &mut H,

@@ -14,7 +14,11 @@ use ith_words::ShowLine;
 use memo_reports::listing::listing;
 use std::alloc::Global;
 
-/// Does all that a `show` command requests.
+/// Does all that a `show` command requests, and returns true.
+///
+/// # Errors
+///
+/// The status of the call, which is neither `Finished` nor `Unfinished`.
 pub fn show<H: Host>(alloc: Global, host: &mut H, line: &ShowLine<'_>) -> Result<bool, Status>
     ensures { Ends (Some (Shows (show_said line.now)))
         (H.world host.old) (H.world host.new) (status_in result) }

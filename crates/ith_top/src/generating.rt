@@ -113,7 +113,6 @@ fn make_both<R: Threads + Wait + Sync, G: Gate + Sync>(
     } = prepare(alloc, number)?;
     let input = take_input(&mut inputs)?;
     let edited = take_input(&mut inputs)?;
-    drop(inputs);
     let mut last = None;
     let first = make_round(alloc, beginning, input, crew, Form::Line, &mut last)?;
     let second = make_round(alloc, first.next, edited, crew, Form::Line, &mut last)?;
