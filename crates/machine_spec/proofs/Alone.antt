@@ -1,19 +1,16 @@
 -- The schedule that follows the choice is permitted and complete.
-use Rattle.std.proofs.Common.{◌≡◌, ◌≢◌, ◌<◌, ◌≤◌, ◌+◌, ℕ, zero, suc, Bool, true, false, not, ◌&&◌, ◌||◌, eqb, ltb, cond, min, List, [], ◌∷◌, length, map, get_or, Option, Some, None, is_some, is_none, refl, ap, sym, ◌∙◌, inl, inr, arith}
+use Rattle.std.proofs.Common.{◌≡◌, ◌<◌, ◌≤◌, ◌+◌, ℕ, zero, suc, Bool, true, false, not, ◌&&◌, ◌||◌, eqb, ltb, cond, List, [], ◌∷◌, length, map, Option, Some, None, is_some, refl, sym, inl, inr, arith}
 use Rattle.std.proofs.lemmas.Bool.{and_parts, eq-eqb, cases_lt}
 use Rattle.std.proofs.lemmas.Bool.Decides.{nat_tests}
 use Rattle.std.proofs.lemmas.List.Quantifiers.{position-Some}
-use Rattle.std.specs.List.{list_any, filter, position, position_or_len}
-use Rattle.guest_call.specs.Objects.{act}
+use Rattle.std.specs.List.{list_any, filter, position_or_len}
 use Rattle.memory_spec.specs.Pages.{Memory}
-use Rattle.memory_spec.specs.Stores.{with_stores}
 use Rattle.isa_spec.specs.Registers.{Registers}
 use Rattle.thunk_spec.specs.declared.ends.ThunkEnd.{ThunkEnd}
-use Rattle.thunk_spec.specs.Thunk.{thunk}
 use Rattle.machine_spec.specs.declared.states.End.{End}
 use Rattle.machine_spec.specs.Machine.{Hart, Machine, hart_of, nobody, is_ready}
 use Rattle.machine_spec.specs.Step.{written, Asked, Asks, Stops, asked, done_as_asked, finished, step, can_step}
-use Rattle.machine_spec.specs.Schedule.{scratch_from, is_permitted_from, is_complete_from}
+use Rattle.machine_spec.specs.Schedule.{is_permitted_from, is_complete_from}
 use Rattle.machine_spec.specs.Setup.{Setup, IsSetup, first}
 use Rattle.machine_spec.specs.Choice.{least, ready_numbers, is_ready_at, choice, chosen_first, alone_from, alone}
 use Rattle.machine_spec.specs.Whole.{IsWhole}

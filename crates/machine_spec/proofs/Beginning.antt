@@ -1,20 +1,20 @@
 -- The first machine of a setup is whole.
-use Rattle.std.proofs.Common.{◌≡◌, ◌<◌, ◌≤◌, ◌+◌, ◌*◌, ℕ, zero, suc, Bool, true, ltb, List, [], ◌∷◌, ◌++◌, length, map, replicate, Option, Some, None, refl, ap, sym, ◌∙◌, arith}
+use Rattle.std.proofs.Common.{◌≡◌, ◌<◌, ◌≤◌, ◌+◌, ◌*◌, ℕ, zero, suc, true, ltb, List, [], ◌∷◌, ◌++◌, length, map, replicate, refl, ap, sym, ◌∙◌, arith}
 use Rattle.std.proofs.lemmas.List.{length-append, length-replicate}
 use Rattle.std.proofs.lemmas.List.FromFn.{length-map-range_with_len}
 use Rattle.std.specs.Prelude.{slice_index}
 use Rattle.std.proofs.lemmas.List.Elements.{All-cons, All-nil, All-append, All-replicate, All-map, All-from_recursion, recursion_from_All}
 use Rattle.std.specs.List.{All, AllByRecursion, range_with_len}
 use Rattle.std.specs.Int.{to_le_bytes, w32}
-use Rattle.memory_spec.specs.Pages.{Mapped, Memory, IsMemory, zero_page, ascends_above}
+use Rattle.memory_spec.specs.Pages.{Mapped, IsMemory, zero_page, ascends_above}
 use Rattle.std.proofs.lemmas.Bool.Decides.{nat_tests}
 use Rattle.elf_spec.specs.Image.{image_pages, image_memory, entry_of, is_image}
 use Rattle.elf_spec.proofs.Touched.{pages_inside, image_ascends}
 use Rattle.elf_spec.proofs.ImageMemory.{IsMemory-image}
-use Rattle.guest_call.specs.Objects.{opening, waits_at, ended_at}
+use Rattle.guest_call.specs.Objects.{opening}
 use Rattle.guest_call.proofs.Kept.{opening_kept, opening_waits}
 use Rattle.machine_spec.specs.declared.states.Status.TheVariants.{Ready}
-use Rattle.machine_spec.specs.Machine.{Hart, Machine}
+use Rattle.machine_spec.specs.Machine.{Hart}
 use Rattle.machine_spec.specs.Performing.{first_hart}
 use Rattle.machine_spec.specs.Setup.{Setup, IsSetup, data_pages, map_of, header_page, input_page, input_memory, stack_memory, start_memory, first}
 use Rattle.machine_spec.specs.Whole.{IsTied, IsWhole, blocked_count, ended_value}

@@ -1,10 +1,10 @@
 -- Small guests of the worked examples, and machines that begin with them. Pages are cut after the last byte that is
 -- looked at.
-use Rattle.std.proofs.Common.{ℕ, List, [], ◌∷◌, Option, None}
-use Rattle.memory_spec.specs.Pages.{Mapped, Memory}
+use Rattle.std.proofs.Common.{ℕ, List, [], ◌∷◌, None}
+use Rattle.memory_spec.specs.Pages.{Memory}
 use Rattle.guest_call.specs.Objects.{opening}
-use Rattle.thunk_spec.proofs.Guests.{map, frame_of}
-use Rattle.machine_spec.specs.Machine.{Hart, Machine}
+use Rattle.thunk_spec.proofs.Guests.{frame_of}
+use Rattle.machine_spec.specs.Machine.{Machine}
 use Rattle.machine_spec.specs.Performing.{first_hart}
 
 -- thread 0 alone at 0x10000, with this fuel and this step limit

@@ -1,20 +1,19 @@
 -- What performing an effect does to each hart.
-use Rattle.std.proofs.Common.{◌≡◌, ◌≢◌, ◌<◌, ◌≤◌, ◌+◌, ℕ, zero, suc, Bool, true, false, eqb, cond, List, [], ◌∷◌, ◌++◌, length, get_or, set, Option, Some, None, refl, ap, sym, ◌∙◌, inl, inr, arith}
+use Rattle.std.proofs.Common.{◌≡◌, ◌≢◌, ◌<◌, ◌≤◌, ◌+◌, ℕ, zero, suc, true, false, eqb, List, [], ◌∷◌, ◌++◌, length, set, Option, Some, None, refl, ap, sym, ◌∙◌, inl, inr, arith}
 use Rattle.std.proofs.lemmas.Bool.{cases_eq, cases_lt, eq-eqb}
 use Rattle.std.proofs.lemmas.Bool.Decides.{nat_tests}
 use Rattle.std.proofs.lemmas.List.{get_or-set_same, get_or-set_other, get_or_past, get_or_append_left, length-set, length-append}
-use Rattle.std.specs.List.{AllByRecursion}
 use Rattle.memory_spec.specs.Pages.{Memory}
 use Rattle.guest_call.specs.declared.Fate.{Fate}
 use Rattle.guest_call.specs.declared.Fate.TheVariants.{Returns, Blocks, Ends, Exits}
-use Rattle.guest_call.specs.Effect.{Effect, waiting, ended_after}
+use Rattle.guest_call.specs.Effect.{waiting, ended_after}
 use Rattle.guest_call.specs.Queues.{places}
 use Rattle.guest_call.specs.Objects.{created_count}
 use Rattle.guest_call.proofs.Counting.{tally, places-nil, places-cons}
 use Rattle.machine_spec.specs.declared.states.Status.{Status}
 use Rattle.machine_spec.specs.declared.states.Status.TheVariants.{Ready, Blocked, Ended}
-use Rattle.machine_spec.specs.Machine.{Hart, hart_in, nobody, is_ready, is_blocked}
-use Rattle.machine_spec.specs.Performing.{returned, fated, woken, first_hart, with_created, settled}
+use Rattle.machine_spec.specs.Machine.{Hart, hart_in, nobody, is_ready}
+use Rattle.machine_spec.specs.Performing.{returned, fated, woken, first_hart, with_created}
 use Rattle.machine_spec.specs.Whole.{blocked_count, ended_value}
 
 pub blocked_count-le : (s : Status) → blocked_count s ≤ 1

@@ -1,7 +1,7 @@
 -- Worked examples of whole runs, each computed by the checker. Schedules, ends and outputs were worked out by hand.
-use Rattle.std.proofs.Common.{◌≡◌, ℕ, Bool, true, false, not, ◌&&◌, List, [], ◌∷◌, Option, Some, None, refl}
+use Rattle.std.proofs.Common.{◌≡◌, ℕ, true, false, not, ◌&&◌, List, [], ◌∷◌, Option, Some, refl}
 use Rattle.isa_spec.specs.Fields.{i_immediate, s_immediate, u_immediate}
-use Rattle.isa_spec.specs.Registers.{Registers, with_register, with_pc}
+use Rattle.isa_spec.specs.Registers.{with_register, with_pc}
 use Rattle.isa_spec.specs.Operations.{immediate_result, shift_result, register_result}
 use Rattle.isa_spec.specs.Table.{decoded, reading_of}
 use Rattle.memory_spec.specs.Pages.{Memory, permission_at, page_of}
@@ -15,7 +15,7 @@ use Rattle.machine_spec.specs.declared.states.Status.TheVariants.{Ready}
 use Rattle.machine_spec.specs.declared.states.End.{End}
 use Rattle.machine_spec.specs.declared.states.End.TheVariants.{Exit, Trap, Deadlock, Spent}
 use Rattle.isa_spec.specs.declared.Cause.TheVariants.{BadCall, LoadMisaligned}
-use Rattle.machine_spec.specs.Machine.{Machine, Hart, hart_of}
+use Rattle.machine_spec.specs.Machine.{Machine, hart_of}
 use Rattle.machine_spec.specs.Performing.{first_registers}
 use Rattle.machine_spec.specs.Step.{step, finished}
 use Rattle.machine_spec.specs.Schedule.{scratch_from, is_permitted_from, is_complete_from}

@@ -1,36 +1,30 @@
 -- A step keeps every other ready hart as it is and the invariant of machines, and it is the same as applying a true
 -- record that fits.
-use Rattle.std.proofs.Common.{◌≡◌, ◌≢◌, ◌<◌, ◌≤◌, ◌+◌, ℕ, zero, suc, Bool, true, false, ◌&&◌, not, eqb, leb, cond, List, [], ◌∷◌, ◌++◌, length, get_or, set, Option, Some, None, is_none, refl, ap, sym, ◌∙◌, subst, inl, inr, arith}
-use Rattle.std.proofs.lemmas.Bool.{eqb-true}
+use Rattle.std.proofs.Common.{◌≡◌, ◌≢◌, ◌<◌, ◌≤◌, ℕ, zero, suc, Bool, true, false, not, leb, cond, List, [], ◌∷◌, ◌++◌, length, set, Option, Some, None, is_none, refl, ap, ◌∙◌, arith}
 use Rattle.std.proofs.lemmas.Bool.{and_parts}
 use Rattle.std.proofs.lemmas.Bool.Decides.{nat_tests}
 use Rattle.std.proofs.lemmas.List.{get_or-set_other}
-use Rattle.std.proofs.lemmas.Slice.Eq.{bytes_eq-Decides}
 use Rattle.std.specs.List.{AllByRecursion, list_all, list_any}
-use Rattle.std.specs.Str.{bytes_eq}
 use Rattle.isa_spec.specs.Registers.{Registers}
 use Rattle.isa_spec.proofs.Equality.{same_registers-true}
 use Rattle.memory_spec.specs.Pages.{Mapped, Memory, IsMemory}
 use Rattle.memory_spec.specs.Stores.{with_stores}
 use Rattle.memory_spec.proofs.WithStores.{IsMemory-with_stores}
-use Rattle.guest_call.specs.declared.Call.{Call}
 use Rattle.guest_call.specs.declared.Fate.{Fate}
 use Rattle.guest_call.specs.declared.Fate.TheVariants.{Returns, Blocks, Ends, Exits}
 use Rattle.guest_call.specs.Effect.{Effect}
-use Rattle.guest_call.specs.Objects.{Objects, act}
+use Rattle.guest_call.specs.Objects.{act}
 use Rattle.thunk_spec.specs.declared.ends.ThunkEnd.{ThunkEnd}
 use Rattle.thunk_spec.specs.Put.{is_readable}
 use Rattle.thunk_spec.specs.Thunk.{Thunk, thunk}
-use Rattle.thunk_spec.specs.Delta.{masked}
 use Rattle.thunk_spec.specs.Reads.{has}
-use Rattle.thunk_spec.specs.Record.{Kept, Record, IsTrue, StandsFor, put_of, fits_at}
+use Rattle.thunk_spec.specs.Record.{Record, IsTrue, StandsFor, fits_at}
 use Rattle.thunk_spec.proofs.Truth.{StandsFor-true}
-use Rattle.machine_spec.specs.declared.states.Status.{Status}
 use Rattle.machine_spec.specs.declared.states.End.{End}
 use Rattle.machine_spec.specs.Limits.{AreLimits}
 use Rattle.machine_spec.specs.Machine.{Hart, Machine, hart_in, hart_of, nobody, is_ready, is_ended}
 use Rattle.machine_spec.specs.Performing.{returned, fated, woken, first_hart, with_created, settled}
-use Rattle.machine_spec.specs.Step.{advanced, written, Asked, Asks, Stops, asked, fate_end, state_end, end_after, performed, done_as_asked, finished, step, apply, fits, can_step}
+use Rattle.machine_spec.specs.Step.{advanced, written, Asked, Asks, Stops, asked, fate_end, end_after, done_as_asked, finished, step, apply, fits, can_step}
 use Rattle.machine_spec.specs.Whole.{IsTied, IsHartOf, IsWhole}
 use Rattle.machine_spec.proofs.Harts.{ready-below, status-set}
 use Rattle.machine_spec.proofs.Tied.{tied-written, tied-called, stays-called}

@@ -1,5 +1,5 @@
 -- A call keeps objects and harts in agreement, and every other ready hart as it is.
-use Rattle.std.proofs.Common.{◌≡◌, ◌≢◌, ◌<◌, ◌≤◌, ◌+◌, ℕ, Bool, true, false, eqb, List, length, get_or, set, Option, Some, None, refl, ap, sym, ◌∙◌, inl, inr, arith}
+use Rattle.std.proofs.Common.{◌≡◌, ◌≢◌, ◌<◌, ◌≤◌, ◌+◌, ℕ, Bool, true, eqb, List, length, set, None, refl, ap, sym, ◌∙◌, inl, inr, arith}
 use Rattle.std.proofs.lemmas.Bool.{cases_eq, cases_lt, eq-eqb}
 use Rattle.std.proofs.lemmas.List.{get_or-set_same, get_or-set_other, get_or_past, length-set}
 use Rattle.memory_spec.specs.Pages.{Memory}
@@ -7,14 +7,13 @@ use Rattle.guest_call.specs.declared.Call.{Call}
 use Rattle.guest_call.specs.declared.Fate.{Fate}
 use Rattle.guest_call.specs.Effect.{Effect, waiting, ended_after}
 use Rattle.guest_call.specs.Queues.{places, entering}
-use Rattle.guest_call.specs.Threads.{Member, fresh, member_at}
+use Rattle.guest_call.specs.Threads.{Member, fresh}
 use Rattle.guest_call.specs.Objects.{Objects, act, waits_at, ended_at, created_count, IsKept}
 use Rattle.guest_call.proofs.Counting.{entering-other}
 use Rattle.guest_call.proofs.Conservation.{act_keeps}
 use Rattle.guest_call.proofs.Kept.{act_creates, act_kept, act_ended}
-use Rattle.machine_spec.specs.declared.states.Status.{Status}
 use Rattle.machine_spec.specs.Machine.{Hart, hart_in, nobody, is_ready}
-use Rattle.machine_spec.specs.Performing.{fated, woken, with_created, settled}
+use Rattle.machine_spec.specs.Performing.{fated, woken, settled}
 use Rattle.machine_spec.specs.Whole.{blocked_count, ended_value, IsTied}
 use Rattle.machine_spec.proofs.Harts.{blocked_count-ready, ended_value-ready, ready-below, status-set, length-woken, woken-stays, woken-blocked, woken-ended, length-created, created-stays, created-blocked, created-last, fated-blocked, fated-ended, ended_after-other}
 

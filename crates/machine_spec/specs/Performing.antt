@@ -1,5 +1,5 @@
 -- How the effect of a call is performed on the harts: one way for all calls.
-use Rattle.std.specs.Prelude.{ℕ, zero, suc, ◌+◌, ◌*◌, List, [], ◌∷◌, ◌++◌, length, replicate, slice_set, Option, Some, None}
+use Rattle.std.specs.Prelude.{ℕ, ◌+◌, ◌*◌, List, [], ◌∷◌, ◌++◌, length, replicate, slice_set, Option, Some, None}
 use Rattle.isa_spec.specs.Registers.{Registers, with_register, with_pc}
 use Rattle.isa_spec.specs.Words.{sum_of}
 use Rattle.memory_spec.specs.Pages.{Memory}

@@ -1,5 +1,5 @@
 -- What a run starts from: a program, an input and two limits, and the machine that they make.
-use Rattle.std.specs.Prelude.{◌≡◌, ℕ, ◌+◌, ◌*◌, ◌≤◌, Bool, true, List, [], ◌∷◌, ◌++◌, length, map, replicate, slice_index, Option, None}
+use Rattle.std.specs.Prelude.{◌≡◌, ℕ, ◌*◌, ◌≤◌, Bool, true, List, [], ◌∷◌, ◌++◌, length, map, replicate, slice_index, None}
 use Rattle.std.specs.List.{range_with_len}
 use Rattle.std.specs.Int.{to_le_bytes, w32}
 use Rattle.memory_spec.specs.Pages.{Mapped, Memory, zero_page}
@@ -9,7 +9,7 @@ use Rattle.thunk_spec.specs.Record.{Record}
 use Rattle.guest_call.specs.Objects.{opening}
 use Rattle.machine_spec.specs.declared.TheConstants.{MOST_INPUT_BYTES, HEADER, HEADER_PAGE, INPUT_PAGE, INPUT_PAGES, STACK_PAGE, STACK_PAGES}
 use Rattle.machine_spec.specs.Limits.{AreLimits}
-use Rattle.machine_spec.specs.Machine.{Hart, Machine}
+use Rattle.machine_spec.specs.Machine.{Machine}
 use Rattle.machine_spec.specs.Performing.{first_hart}
 use Rattle.machine_spec.specs.Schedule.{scratch_from, is_permitted_from, is_complete_from, records_from}
 

@@ -13,7 +13,7 @@ use Rattle.guest_call.specs.Objects.{Objects, act}
 use Rattle.thunk_spec.specs.declared.ends.ThunkEnd.{ThunkEnd}
 use Rattle.thunk_spec.specs.declared.ends.ThunkEnd.TheVariants as thunk_end
 use Rattle.thunk_spec.specs.Put.{call_at, is_readable}
-use Rattle.thunk_spec.specs.Thunk.{Thunk, thunk}
+use Rattle.thunk_spec.specs.Thunk.{thunk}
 use Rattle.thunk_spec.specs.Delta.{masked}
 use Rattle.thunk_spec.specs.Record.{Record, put_of, fits_at}
 pub use Rattle.machine_spec.specs.declared.states.Asked.{Asked}

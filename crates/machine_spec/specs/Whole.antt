@@ -1,5 +1,5 @@
 -- What holds of every machine that a setup's schedules reach.
-use Rattle.std.specs.Prelude.{◌≡◌, ℕ, ◌<◌, ◌≤◌, Bool, true, List, length, Option, Some, None, if◌then◌else◌}
+use Rattle.std.specs.Prelude.{◌≡◌, ℕ, ◌<◌, ◌≤◌, true, List, length, Option, Some, None, if◌then◌else◌}
 use Rattle.std.specs.List.{AllByRecursion, list_any}
 use Rattle.memory_spec.specs.Pages.{Mapped, IsMemory}
 use Rattle.guest_call.specs.Objects.{Objects, IsKept, waits_at, ended_at}

@@ -1,10 +1,10 @@
 -- Worked examples, each computed by the checker; the digest isn't computed. The lines are those that the report's
 -- format prescribes.
-use Rattle.std.proofs.Common.{◌≡◌, ℕ, Bool, true, false, List, [], ◌∷◌, ◌++◌, Option, Some, None, refl}
+use Rattle.std.proofs.Common.{◌≡◌, ℕ, true, false, [], ◌∷◌, ◌++◌, Some, refl}
 use Rattle.std.specs.Prelude.{codes}
 use Rattle.std.specs.Fmt.{digits}
 use Rattle.hex.specs.Hex.{encode_with}
-use Rattle.isa_spec.specs.Fields.{i_immediate, s_immediate, u_immediate}
+use Rattle.isa_spec.specs.Fields.{i_immediate, u_immediate}
 use Rattle.isa_spec.specs.Registers.{with_register}
 use Rattle.isa_spec.specs.Operations.{immediate_result}
 use Rattle.isa_spec.specs.Table.{decoded, reading_of}
@@ -21,7 +21,7 @@ use Rattle.machine_spec.specs.Performing.{first_registers}
 use Rattle.machine_spec.specs.Step.{step, finished}
 use Rattle.machine_spec.proofs.Guests.{begins}
 use Rattle.report_spec.specs.declared.Entry.{Entry}
-use Rattle.report_spec.specs.Text.{newline, hex8}
+use Rattle.report_spec.specs.Text.{newline}
 use Rattle.report_spec.specs.Report.{no_extras, end_text, instructions_from, memory_digest, report_lines}
 
 abbrev pub executed : ℕ → Entry

@@ -1,7 +1,6 @@
 -- Lines of text, as bytes.
-use Rattle.std.specs.Prelude.{ℕ, List, [], ◌∷◌, ◌++◌, codes}
+use Rattle.std.specs.Prelude.{ℕ, List, [], ◌∷◌, ◌++◌}
 use Rattle.std.specs.List.{flat_map}
-use Rattle.std.specs.Fmt.{decimal}
 use Rattle.std.specs.Int.{to_be_bytes, w32}
 use Rattle.hex.specs.Hex.{encode_lower}
 

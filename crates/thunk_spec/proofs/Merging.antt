@@ -1,12 +1,12 @@
 -- Writing the masked last bytes of stores is writing the stores in order.
-use Rattle.std.proofs.Common.{◌≡◌, ℕ, ◌%◌, zero, suc, Bool, true, false, cond, List, [], ◌∷◌, length, get_or, set, replicate, refl, ap, sym, ◌∙◌, arith}
-use Rattle.std.specs.List.{All, AllByRecursion, list_any}
+use Rattle.std.proofs.Common.{◌≡◌, ℕ, ◌%◌, zero, suc, Bool, true, false, cond, List, [], ◌∷◌, length, set, replicate, refl, ap, sym, ◌∙◌, arith}
+use Rattle.std.specs.List.{AllByRecursion}
 use Rattle.std.proofs.lemmas.List.{length-set, length-replicate}
 use Rattle.std.proofs.lemmas.List.Elements.{recursion_from_All}
 use Rattle.memory_spec.specs.Pages.{Mapped, Memory, on_each, zero_page, page_of, slot_of, IsMemory}
 use Rattle.memory_spec.specs.Stores.{StoredByte, with_byte, with_stores}
 use Rattle.memory_spec.specs.Workspace.{Masks, no_marks, mask_of, with_mark, marked}
-use Rattle.thunk_spec.specs.Delta.{PageDelta, chosen, spread, is_stored, delta_from, delta_of, masked}
+use Rattle.thunk_spec.specs.Delta.{chosen, spread, is_stored, delta_from, delta_of, masked}
 
 -- a page where the bytes at the places of a mask are those of another one
 abbrev pub merged : List ℕ → List ℕ → List Bool → List ℕ

@@ -1,18 +1,18 @@
 -- Worked examples of thunks, each computed by the checker. The values were worked out by hand.
-use Rattle.std.proofs.Common.{◌≡◌, ℕ, Bool, true, false, List, [], ◌∷◌, refl}
+use Rattle.std.proofs.Common.{◌≡◌, ℕ, true, false, [], ◌∷◌, refl}
 use Rattle.isa_spec.specs.declared.Cause.TheVariants.{LoadMisaligned}
 use Rattle.isa_spec.specs.Fields.{i_immediate, s_immediate, u_immediate}
-use Rattle.isa_spec.specs.Registers.{Registers, with_register, with_pc}
+use Rattle.isa_spec.specs.Registers.{Registers, with_register}
 use Rattle.isa_spec.specs.Operations.{immediate_result}
 use Rattle.isa_spec.specs.Table.{decoded, reading_of}
-use Rattle.memory_spec.specs.Pages.{Memory, permission_at}
-use Rattle.memory_spec.specs.Stores.{StoredByte, with_byte}
+use Rattle.memory_spec.specs.Pages.{permission_at}
+use Rattle.memory_spec.specs.Stores.{with_byte}
 use Rattle.memory_spec.specs.Access.{number_in, number_at, loaded, fetched, may_store, bytes_stored}
 use Rattle.memory_spec.specs.Workspace.{taken_at}
 use Rattle.thunk_spec.specs.declared.ends.ThunkEnd.TheVariants.{Call, Trap, Fuel}
 use Rattle.thunk_spec.specs.Put.{is_readable, put_addresses}
 use Rattle.thunk_spec.specs.Turn.{turn}
-use Rattle.thunk_spec.specs.Thunk.{Thunk, thunk}
+use Rattle.thunk_spec.specs.Thunk.{thunk}
 use Rattle.thunk_spec.proofs.Guests.{map, frame_of, start, hi, self, trap}
 
 -- the registers with a value in each of three, and the pc somewhere

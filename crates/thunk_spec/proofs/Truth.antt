@@ -1,19 +1,18 @@
 -- What is kept of a thunk is true of it on every view that has the read pages.
-use Rattle.std.proofs.Common.{◌≡◌, ◌<◌, ◌≤◌, ◌≢◌, ◌+◌, ℕ, zero, suc, Bool, true, false, ◌&&◌, List, [], ◌∷◌, length, get_or, set, refl, ap, sym, ◌∙◌, subst, inl, inr, arith}
+use Rattle.std.proofs.Common.{◌≡◌, ◌≤◌, ◌+◌, ℕ, zero, suc, Bool, true, false, List, [], ◌∷◌, length, get_or, set, refl, ap, sym, ◌∙◌, subst, inl, inr, arith}
 use Rattle.std.proofs.lemmas.Bool.{and_parts, cases_eq, cases_lt}
-use Rattle.std.proofs.lemmas.Bool.Decides.{nat_tests}
 use Rattle.std.proofs.lemmas.List.{get_or-set_same, get_or-set_other, get_or_past, length-set}
 use Rattle.std.proofs.lemmas.Slice.Eq.{bytes_eq-Decides}
 use Rattle.std.specs.Str.{bytes_eq}
 use Rattle.isa_spec.specs.Registers.{Registers}
 use Rattle.memory_spec.specs.Pages.{Mapped, Memory, on_each, page_of, slot_of, IsMemory}
-use Rattle.memory_spec.specs.Stores.{StoredByte, with_stores}
+use Rattle.memory_spec.specs.Stores.{with_stores}
 use Rattle.memory_spec.specs.Workspace.{taken_at}
 use Rattle.thunk_spec.specs.Put.{put_addresses, bytes_at}
-use Rattle.thunk_spec.specs.Thunk.{Frame, Thunk, thunk}
+use Rattle.thunk_spec.specs.Thunk.{Frame, thunk}
 use Rattle.thunk_spec.specs.Locality.{Agree}
 use Rattle.thunk_spec.proofs.ThunkLocality.{thunk-same}
-use Rattle.thunk_spec.specs.Delta.{PageDelta, delta_of, masked}
+use Rattle.thunk_spec.specs.Delta.{delta_of}
 use Rattle.thunk_spec.specs.Reads.{ReadPage, reads_from, reads_of, has}
 use Rattle.thunk_spec.specs.Record.{Kept, kept, kept_thunk, put_of, IsTrue, StandsFor}
 use Rattle.thunk_spec.proofs.Merging.{masked-delta_of}

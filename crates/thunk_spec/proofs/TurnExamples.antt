@@ -1,15 +1,14 @@
 -- Worked examples of turns, each computed by the checker. The values follow from the ISA's text.
-use Rattle.std.proofs.Common.{◌≡◌, ℕ, List, [], ◌∷◌, refl}
+use Rattle.std.proofs.Common.{◌≡◌, [], ◌∷◌, refl}
 use Rattle.isa_spec.specs.declared.Cause.TheVariants.{InstructionMisaligned, InstructionAccess, IllegalInstruction, LoadMisaligned, LoadAccess, StoreMisaligned, StoreAccess}
 use Rattle.isa_spec.specs.Fields.{i_immediate, s_immediate, b_immediate, j_immediate}
-use Rattle.isa_spec.specs.Registers.{Registers, register, with_register, with_pc}
+use Rattle.isa_spec.specs.Registers.{with_register, with_pc}
 use Rattle.isa_spec.specs.Operations.{branch_taken, immediate_result}
 use Rattle.isa_spec.specs.Table.{decoded, reading_of}
-use Rattle.memory_spec.specs.Pages.{Memory, permission_at}
-use Rattle.memory_spec.specs.Stores.{StoredByte}
+use Rattle.memory_spec.specs.Pages.{permission_at}
 use Rattle.memory_spec.specs.Access.{number_in, number_at, loaded, fetched, may_store, bytes_stored}
-use Rattle.thunk_spec.specs.declared.ends.Outcome.TheVariants.{Next, Trap}
-use Rattle.thunk_spec.specs.Turn.{Turn, turn, passed, stopped}
+use Rattle.thunk_spec.specs.declared.ends.Outcome.TheVariants.{Trap}
+use Rattle.thunk_spec.specs.Turn.{turn, passed, stopped}
 use Rattle.thunk_spec.proofs.Guests.{map, start, one}
 
 -- addi x0,x0,5: a write to x0 is dropped, and the fetch took a byte from the code's page

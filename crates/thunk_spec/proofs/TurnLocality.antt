@@ -1,5 +1,5 @@
 -- A turn is the same on each view that has the same bytes in the pages that it took bytes from.
-use Rattle.std.proofs.Common.{◌≡◌, ℕ, ◌%◌, Bool, true, false, eqb, cond, List, [], ◌∷◌, Option, Some, None, refl, ap, sym, ◌∙◌}
+use Rattle.std.proofs.Common.{◌≡◌, ℕ, ◌%◌, Bool, true, false, eqb, cond, List, Option, Some, None, refl, ap}
 use Rattle.isa_spec.specs.declared.Instr.{Instr}
 use Rattle.isa_spec.specs.declared.Instr.TheVariants as instr
 use Rattle.isa_spec.specs.declared.Load.{Load}
@@ -12,7 +12,7 @@ use Rattle.memory_spec.specs.Pages.{Mapped, Memory, allows, read_right, execute_
 use Rattle.memory_spec.specs.Access.{byte_count, number_at, loaded, fetched}
 use Rattle.thunk_spec.specs.declared.ends.Outcome.TheVariants.{Trap}
 use Rattle.isa_spec.specs.declared.Cause.TheVariants.{InstructionMisaligned, LoadMisaligned}
-use Rattle.thunk_spec.specs.Turn.{Turn, turn, executed, word_turn, with_fetch, fetch_found, load_turn, load_found, load_size, stopped}
+use Rattle.thunk_spec.specs.Turn.{turn, executed, word_turn, with_fetch, fetch_found, load_turn, load_found, load_size, stopped}
 use Rattle.thunk_spec.specs.Locality.{Agree}
 
 -- the number at an address lies in one page

@@ -1,5 +1,5 @@
 -- The bytes that a put appends to the output: read in the view with the thunk's own stores applied.
-use Rattle.std.specs.Prelude.{ℕ, ◌+◌, ◌%◌, Bool, if◌then◌else◌, List, [], Option, Some, None, map, slice_index_or}
+use Rattle.std.specs.Prelude.{ℕ, ◌%◌, Bool, if◌then◌else◌, List, [], Option, Some, map, slice_index_or}
 use Rattle.std.specs.List.{list_all, range_with_len}
 use Rattle.isa_spec.specs.Registers.{Registers, register}
 use Rattle.memory_spec.specs.Pages.{Mapped, Memory, allows, read_right, permission_at, slot_of, page_of}

@@ -7,7 +7,6 @@ use Rattle.isa_spec.specs.declared.Load.{Load}
 use Rattle.isa_spec.specs.declared.Load.TheVariants as load
 use Rattle.isa_spec.specs.declared.Store.{Store}
 use Rattle.isa_spec.specs.declared.Store.TheVariants as store
-use Rattle.isa_spec.specs.declared.Cause.{Cause}
 use Rattle.isa_spec.specs.declared.Cause.TheVariants.{InstructionMisaligned, InstructionAccess, IllegalInstruction, Breakpoint, LoadMisaligned, LoadAccess, StoreMisaligned, StoreAccess}
 use Rattle.isa_spec.specs.Words.{sum_of, sign_extended}
 use Rattle.isa_spec.specs.Registers.{Registers, register, with_register, with_pc}

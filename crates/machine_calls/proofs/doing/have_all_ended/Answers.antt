@@ -1,4 +1,4 @@
--- What is left to prove of `have_all_ended`.
+-- Answers to the goals that the check of `have_all_ended` leaves open.
 use Rattle.std.proofs.Common.{◌≡◌, ◌<◌, ◌+◌, ℕ, Bool, true, List, drop, length, get_or, sym, ap, ◌∙◌, arith, rules}
 use Rattle.std.specs.Prelude.{◌&&◌}
 use Rattle.std.specs.List.{list_all}

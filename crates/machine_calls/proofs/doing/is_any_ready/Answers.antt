@@ -1,4 +1,4 @@
--- What is left to prove of `is_any_ready`.
+-- Answers to the goals that the check of `is_any_ready` leaves open.
 use Rattle.std.proofs.Common.{◌≡◌, ◌<◌, ◌+◌, ℕ, Bool, false, List, drop, length, get_or, sym, ap, ◌∙◌, arith, rules}
 use Rattle.std.specs.Prelude.{◌||◌}
 use Rattle.std.specs.List.{list_any}

@@ -1,4 +1,4 @@
--- What is left to prove of `wake`.
+-- Answers to the goals that the check of `wake` leaves open.
 use Rattle.std.proofs.Common.{◌≡◌, ◌<◌, ◌≤◌, ◌+◌, ℕ, [], List, Option, drop, length, get_or, set, refl, sym, ap, ◌∙◌, arith}
 use Rattle.std.proofs.lemmas.List.{at_drop_more, drop_all, get_or_default, set_past}
 use Rattle.std.proofs.lemmas.Result.{err_from_is_err_and}
