@@ -1,5 +1,5 @@
 """Translates a guest's instructions to functions of Python, block by block: a block ends with a jump, a branch or a
-call, or at the end of its page. It goes by docs/MACHINE.md and shares no code with the program.
+call, or at the end of its page. It follows docs/MACHINE.md and shares no code with the program.
 
 A block's function takes the registers, the pages, how many turns there were, and how many may begin a block; it gives
 the next pc and the turns. The pc is the complement of the address of an ECALL, where it came to one.
@@ -183,17 +183,17 @@ class Block:
 
     def function(self):
         """The function, and the instructions of it."""
-        begun = [f"x{number} = x[{number}]" for number in sorted(self.wanted)]
-        left = [f"x[{number}] = x{number}" for number in sorted(self.written)]
+        loaded = [f"x{number} = x[{number}]" for number in sorted(self.wanted)]
+        saved = [f"x[{number}] = x{number}" for number in sorted(self.written)]
         if not self.is_done:
             self.end(f"return {self.pc & WORD}, n + {self.count}")
         if self.loops_to is None:
-            lines = begun + self.lines + left + list(self.last)
+            lines = loaded + self.lines + saved + list(self.last)
         else:
             changed = [f"x{number} = x[{number}]" for number in sorted(self.written - self.wanted)]
             inside = [f"    {line}" for line in (*self.lines, *self.last)]
-            lines = (begun + changed + ["while n <= last:", *inside, "else:"]
-                     + [f"    {line}" for line in (*left, f"return {self.start}, n")] + left
+            lines = (loaded + changed + ["while n <= last:", *inside, "else:"]
+                     + [f"    {line}" for line in (*saved, f"return {self.start}, n")] + saved
                      + [f"return {self.loops_to}, n"])
         names = {"Trap": Trap, "quotient": quotient}
         exec(HEAD + "".join(f"    {line}\n" for line in lines), names)  # the text is made here, of numbers

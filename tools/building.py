@@ -17,7 +17,7 @@ TEXT_OR_COMMENT = re.compile(rb"""("(?:\\.|[^"\\\n])*"|'(?:\\.|[^'\\\n])*')|//[^
 
 
 class NotBuilt(Exception):
-    """guest/build refused the program, and said why."""
+    """guest/build refused the program, and printed why."""
 
 
 def digest(data):
@@ -67,11 +67,11 @@ class Building:
         others = [pathlib.Path(word) for word in words if word.endswith(".c")]
         folders = [pathlib.Path(word[2:]) for word in words if word.startswith("-I")]
         self.files, missing = included([program, *others], folders)
-        is_asked = "--libc" in words or "--no-libc" in words
-        self.options = ["--libc"] if missing - OF_COMPILER - {"ithreads.h"} and not is_asked else []
+        is_chosen = "--libc" in words or "--no-libc" in words
+        self.options = ["--libc"] if missing - OF_COMPILER - {"ithreads.h"} and not is_chosen else []
 
     def record(self, executable):
-        """What tells this executable from any that other files or words make."""
+        """What distinguishes this executable from those that other files or words make."""
         folders = (GUEST / "include", GUEST / "lib")
         library = [GUEST / "build", *(it for folder in folders for it in sorted(folder.rglob("*")) if it.is_file())]
         contents = {**self.files, **{file: file.read_bytes() for file in library}}
@@ -84,16 +84,16 @@ class Building:
         except (OSError, ValueError):
             return False
 
-    def executable(self, kept, record, part):
-        """The guest in a folder of this call alone: the one that is kept, or else a new one, which is kept then."""
+    def executable(self, cached, record, part):
+        """The guest in a folder of this call alone: the cached one, or else a new one, which is cached then."""
         own = part / "guest.elf"
-        linked(kept, own)
+        linked(cached, own)
         if not self.is_built(own, record):
             own.unlink(missing_ok=True)
-            self.build(own, kept, record, part)
+            self.build(own, cached, record, part)
         return own
 
-    def build(self, own, kept, record, part):
+    def build(self, own, cached, record, part):
         made, written = part / "made", part / "built"
         words = [GUEST / "build", *self.options, *self.words, self.program, own]
         with started(*words, stdin=subprocess.DEVNULL, stdout=subprocess.DEVNULL) as child:
@@ -102,5 +102,5 @@ class Building:
             raise NotBuilt(f"guest/build refuses {self.program}")
         written.write_text(json.dumps(self.record(own.read_bytes()), indent=1) + "\n")
         linked(own, made)
-        made.replace(kept)
+        made.replace(cached)
         written.replace(record)

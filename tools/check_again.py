@@ -1,7 +1,7 @@
 """Checks `tools/again`.
 
   - An input is edited again and again: each call puts out what a run from scratch does, with its status, and says how
-    many steps were executed. Its memo has the input of that call, and nothing else is left in the folder.
+    many steps were executed. Its memo has the input of that call, and nothing else is in the folder afterwards.
   - It runs from scratch, and says why, if there is no memo, the program is another, the memo is cut, damaged, of
     another version or a folder, too much differs, or the step limit is another.
   - A limit that was reached is found out, and isn't reached again. Where the largest fuel is, it says what may help.
@@ -45,10 +45,10 @@ int main(void) { it_put((void *)it_input(), it_input_length()); return CODE; }
 
 
 def again(*words):
-    """The status, what was put out, what is said of the steps, and all of standard error."""
-    status, printed, said = ran_whole(str(TOOL), *map(str, words))
-    found = LINE.fullmatch(said)
-    return status, printed, found and (int(found.group(1)), int(found.group(2)), found.group(3)), said
+    """The status, what was printed, counts and notes of the line on standard error, and all of standard error."""
+    status, printed, errors = ran_whole(str(TOOL), *map(str, words))
+    found = LINE.fullmatch(errors)
+    return status, printed, found and (int(found.group(1)), int(found.group(2)), found.group(3)), errors
 
 
 class Place:
@@ -60,24 +60,24 @@ class Place:
         self.guest, self.data = self.folder / guest.name, self.folder / "data.in"
         shutil.copy(guest, self.guest)
         self.data.write_bytes(data)
-        self.kept = self.folder / f".{guest.name}.again"
-        self.memo = self.kept / "data.in.memo"
+        self.cache = self.folder / f".{guest.name}.again"
+        self.memo = self.cache / "data.in.memo"
 
     def expect(self, what, executed=None, note="", *words):
-        """One call, which puts out what a run from scratch does, executes so many steps, and says a note."""
-        status, printed, counts, said = again(self.guest, self.data, *words)
+        """One call, which puts out what a run from scratch does, executes so many steps, and has a note."""
+        status, printed, counts, errors = again(self.guest, self.data, *words)
         limits = words[1:] if words[:1] == ("--",) else []
         _, report, _ = program("run", self.guest, self.data, *limits)
         end = re.search(rb"^end exit ([0-9]+)$", report, flags=re.M)
         right = counts and end and status == int(end.group(1)) % 256 and report.endswith(b"\n%b\n" % printed)
         right = right and (executed is None or counts[1] == executed) and (note in counts[2] if note else not counts[2])
-        self.checks.expect(f"again, {what}: {status} {said}", right)
+        self.checks.expect(f"again, {what}: {status} {errors}", right)
         with open(self.memo, "rb") as memo:
             head = memos.head(memo)
         same = (head.input, head.elf) == (self.data.read_bytes(), self.guest.read_bytes())
         self.checks.expect(f"again, {what}: the memo is of this input", same)
-        left = sorted(file.name for file in self.kept.iterdir())
-        self.checks.expect(f"again, {what}: {left} are kept", left == ["data.in.memo", "data.in.scratch"])
+        files = sorted(file.name for file in self.cache.iterdir())
+        self.checks.expect(f"again, {what}: {files} are in the cache", files == ["data.in.memo", "data.in.scratch"])
 
 
 def check_edits(checks):
@@ -96,8 +96,8 @@ def check_edits(checks):
     given = str(checks.file("piped", b"\3".ljust(4096, b"\0") + b"\2\0\0\0"))
     piped = ran_whole("bash", "-c", 'cat "$1" | "$2" "$3" /dev/stdin', "bash", given, str(TOOL), str(place.guest))
     checks.expect(f"again, on what a pipe gives: {piped}", piped[:2] == (0, bytes([5, 0, 0, 0])))
-    (place.kept / "stdin.memo").unlink()
-    (place.kept / "stdin.scratch").unlink()
+    (place.cache / "stdin.memo").unlink()
+    (place.cache / "stdin.scratch").unlink()
     place.expect("with a step limit", 0, "", "--", "--steps=12")
     with open(place.memo, "rb") as memo:
         checks.expect("again, with a step limit: it is the memo's", memos.head(memo).steps == 12)
@@ -122,34 +122,34 @@ def check_damage(checks):
         place.memo.write_bytes(data)
         place.expect(f"with a memo {what}", 12, f"{place.memo} is refused: {word}")
         place.expect(f"after a memo {what}", 0)
-    (place.kept / "data.in.scratch").write_bytes(b"{}")
-    status, _, counts, said = again(place.guest, place.data)
-    checks.expect(f"again, without the seconds of the run from scratch: {said}",
-                  status == 0 and counts == (12, 0, "") and "from scratch isn't known" in said)
+    (place.cache / "data.in.scratch").write_bytes(b"{}")
+    status, _, counts, errors = again(place.guest, place.data)
+    checks.expect(f"again, without the seconds of the run from scratch: {errors}",
+                  status == 0 and counts == (12, 0, "") and "from scratch isn't known" in errors)
     place.memo.unlink()
     place.memo.mkdir()
-    status, _, counts, said = again(place.guest, place.data)
-    checks.expect(f"again, with a folder in the memo's place: {status} {said}",
-                  status == 0 and said.count(str(place.memo)) == 2 and counts and counts[1] == 12)
+    status, _, counts, errors = again(place.guest, place.data)
+    checks.expect(f"again, with a folder in the memo's place: {status} {errors}",
+                  status == 0 and errors.count(str(place.memo)) == 2 and counts and counts[1] == 12)
 
 
 def check_limits(checks):
     place = Place(checks, "limits", EXAMPLES / "guest/words.elf", b"a" * 131_072)
-    status, printed, counts, said = again(place.guest, place.data)
+    status, printed, counts, errors = again(place.guest, place.data)
     largest = "a limit was reached, so it ran again with --fuel 16777216 --steps 65536"
     right = status == 0 and printed and counts and counts[2].endswith(largest)
-    checks.expect(f"again, where a step is long: {status} {said}", right)
+    checks.expect(f"again, where a step is long: {status} {errors}", right)
     place.data.write_bytes(b"a" * 131_071 + b" ")
-    status, printed, counts, said = again(place.guest, place.data)
+    status, printed, counts, errors = again(place.guest, place.data)
     right = status == 0 and printed and counts and not counts[2]
-    checks.expect(f"again, where a step was long: {status} {said}", right)
-    status, printed, counts, said = again(place.guest, place.data, "--", "--fuel", "1000")
-    checks.expect(f"again, where the fuel is said: {status} {said}", status == 213 and "as --fuel allows" in said)
+    checks.expect(f"again, where a step was long: {status} {errors}", right)
+    status, printed, counts, errors = again(place.guest, place.data, "--", "--fuel", "1000")
+    checks.expect(f"again, where the fuel is given: {status} {errors}", status == 213 and "as --fuel allows" in errors)
     place = Place(checks, "steps", EXAMPLES / "pair.elf", (EXAMPLES / "pair.in").read_bytes())
     place.expect("before a step limit", 12, "there was no memo")
-    status, printed, counts, said = again(place.guest, place.data, "--", "--steps", "5")
-    right = status == 213 and counts and counts[:2] == (5, 0) and "as --steps allows" in said
-    checks.expect(f"again, with a step limit that is reached: {status} {said}", right)
+    status, printed, counts, errors = again(place.guest, place.data, "--", "--steps", "5")
+    right = status == 213 and counts and counts[:2] == (5, 0) and "as --steps allows" in errors
+    checks.expect(f"again, with a step limit that is reached: {status} {errors}", right)
     place.expect("after it", 7, "a limit was reached, so it ran again with")
 
 
@@ -165,9 +165,9 @@ def check_largest(checks):
     for words, wanted in (((), 'no fuel is larger: try --build "--march rv32im", or a call in that step'),
                           (("--build", "--march rv32im"), "no fuel is larger: try a call in that step"),
                           (("--", "--fuel", "1000"), None)):
-        status, _, _, said = again(folder / "spins.c", EXAMPLES / "empty", *words)
-        right = wanted in said if wanted else "no fuel is larger" not in said
-        checks.expect(f"again, with a step without an end, {words}: {status} {said}", status == 213 and right)
+        status, _, _, errors = again(folder / "spins.c", EXAMPLES / "empty", *words)
+        right = wanted in errors if wanted else "no fuel is larger" not in errors
+        checks.expect(f"again, with a step without an end, {words}: {status} {errors}", status == 213 and right)
 
 
 def check_terminal(checks):
@@ -178,12 +178,12 @@ def check_terminal(checks):
     (folder / "ithreads").chmod(0o755)
     shutil.copy(EXAMPLES / "hi.elf", folder)
     for shown in ("runs from scratch, 1 s", "executes what the change reaches; from scratch took 2."):
-        status, printed, said = on_terminal(folder / "tools/again", folder / "hi.elf", EXAMPLES / "empty")
-        line = said.rpartition("\r\x1b[K")[2].rstrip("\r\n") + "\n"
-        right = (status, printed) == (0, b"hi\n") and f"\rtools/again: {shown}" in said and LINE.fullmatch(line)
-        checks.expect(f"again on a terminal: {status} {printed} {said!r}", right)
-        status, printed, said = ran_whole(folder / "tools/again", folder / "hi.elf", EXAMPLES / "empty")
-        checks.expect(f"again on none: {said!r}", (status, printed) == (0, b"hi\n") and "\r" not in said)
+        status, printed, errors = on_terminal(folder / "tools/again", folder / "hi.elf", EXAMPLES / "empty")
+        line = errors.rpartition("\r\x1b[K")[2].rstrip("\r\n") + "\n"
+        right = (status, printed) == (0, b"hi\n") and f"\rtools/again: {shown}" in errors and LINE.fullmatch(line)
+        checks.expect(f"again on a terminal: {status} {printed} {errors!r}", right)
+        status, printed, errors = ran_whole(folder / "tools/again", folder / "hi.elf", EXAMPLES / "empty")
+        checks.expect(f"again on none: {errors!r}", (status, printed) == (0, b"hi\n") and "\r" not in errors)
 
 
 def check_statuses(checks):
@@ -205,8 +205,8 @@ def check_statuses(checks):
             (("hi.elf", folder / "none"), 206, "none can't be read"), (("none.c", empty), 206, "none.c can't be read"),
             (("empty", empty), 203, "status 3: the executable is refused"), (("hi.elf", folder), 206, "can't be read"),
             (("perm.elf", empty), 207, ".perm.elf.again can't be written")):
-        status, _, _, said = again(folder / words[0], *words[1:])
-        checks.expect(f"again {words}: {status} {said}", status == wanted and begun in said)
+        status, _, _, errors = again(folder / words[0], *words[1:])
+        checks.expect(f"again {words}: {status} {errors}", status == wanted and begun in errors)
     checks.expect("again keeps nothing of what isn't run", not (folder / ".empty.again").exists())
     with open("/dev/full", "wb") as full:
         done = subprocess.run([TOOL, folder / "hi.elf", empty], stdin=subprocess.DEVNULL, stdout=full,
@@ -236,21 +236,21 @@ class Source:
         shutil.rmtree(self.folder, ignore_errors=True)
         self.folder.mkdir()
         self.file, self.header, self.data = (self.folder / name for name in ("code.c", "code.h", "data.in"))
-        self.kept = self.folder / ".code.c.again"
+        self.cache = self.folder / ".code.c.again"
         self.file.write_text(SOURCE)
         self.header.write_text("#ifndef CODE\n#define CODE 1\n#endif\n")
         self.data.write_bytes(b"text")
 
     def executables(self):
-        return {file.stat().st_ino for file in self.kept.glob("guest*.elf")}
+        return {file.stat().st_ino for file in self.cache.glob("guest*.elf")}
 
     def expect(self, what, wanted, is_built, *words):
         """One call, with a status, which builds the guest or doesn't."""
         before = self.executables()
-        status, printed, _, said = again(self.file, self.data, *words)
+        status, printed, _, errors = again(self.file, self.data, *words)
         right = status == wanted and printed == (b"text" if wanted < 200 else b"")
         right = right and bool(self.executables() - before) == is_built
-        self.checks.expect(f"again, {what}: {status} {said}", right)
+        self.checks.expect(f"again, {what}: {status} {errors}", right)
 
 
 def check_building(checks):
@@ -268,20 +268,20 @@ def check_building(checks):
     source.expect("with the words that were before", 3, False, "--build", "-DCODE=3 --march rv32im")
     source.expect("without words again", 2, False)
     checks.expect("again keeps a guest and a memo for each of the words",
-                  [len(list(source.kept.glob(name))) for name in ("guest*", "built*", "*.memo")] == [3, 3, 3])
+                  [len(list(source.cache.glob(name))) for name in ("guest*", "built*", "*.memo")] == [3, 3, 3])
     check_mended(source)
 
 
 def check_mended(source):
     """What is damaged is built anew; what the compiler refuses leaves what was there."""
-    executable = source.kept / "guest.elf"
+    executable = source.cache / "guest.elf"
     executable.write_bytes(executable.read_bytes()[:-1])
     source.expect("where the executable is damaged", 2, True)
     source.file.write_text("no C\n" + SOURCE)
     source.expect("where the compiler refuses it", 214, False)
     source.file.write_text(SOURCE)
     source.expect("where it is as before", 2, False)
-    (source.kept / "built").write_bytes(b"\xff")
+    (source.cache / "built").write_bytes(b"\xff")
     source.expect("where the notes are damaged", 2, True)
 
 
@@ -300,7 +300,7 @@ def check_other_words(checks):
 
 def check_killed(checks):
     place, draw = Place(checks, "killed", EXAMPLES / "pair.elf", (EXAMPLES / "pair.in").read_bytes()), checks.random
-    for number in range(KILLED):
+    for _ in range(KILLED):
         place.data.write_bytes(bytes([draw.randrange(256)]) + place.data.read_bytes()[1:])
         how = draw.choice([signal.SIGINT, signal.SIGTERM, signal.SIGKILL])
         started = subprocess.Popen([TOOL, place.guest, place.data], stdin=subprocess.DEVNULL, stdout=subprocess.DEVNULL,
@@ -310,11 +310,11 @@ def check_killed(checks):
         status = started.wait(SECONDS)
         ends = 0, -how, {signal.SIGINT: 130, signal.SIGTERM: 143}.get(how), 1  # that of Python, where it only starts
         checks.expect(f"again, ended by {how.name}: {status}", status in ends)
-        status, printed, counts, said = again(place.guest, place.data)
+        status, printed, counts, errors = again(place.guest, place.data)
         wanted = (place.data.read_bytes()[0] + place.data.read_bytes()[4096]).to_bytes(4, "little")
         right = (status, printed) == (0, wanted) and counts
-        checks.expect(f"again, after {how.name}: {status} {printed} {said}", right)
-        checks.expect(f"again, after {how.name}: nothing is left", not list(place.kept.glob("part.*")))
+        checks.expect(f"again, after {how.name}: {status} {printed} {errors}", right)
+        checks.expect(f"again, after {how.name}: nothing is left", not list(place.cache.glob("part.*")))
 
 
 def check_at_once(checks):
@@ -329,8 +329,8 @@ def check_at_once(checks):
         started = [subprocess.Popen([TOOL, place.guest, data], stdin=subprocess.DEVNULL, stdout=subprocess.PIPE,
                                     stderr=subprocess.PIPE) for data in inputs]
         for number, one in enumerate(started):
-            printed, said = one.communicate(timeout=SECONDS)
-            checks.expect(f"again, {number} of four at once, {turn}: {one.returncode} {said}",
+            printed, errors = one.communicate(timeout=SECONDS)
+            checks.expect(f"again, {number} of four at once, {turn}: {one.returncode} {errors}",
                           one.returncode == 0 and printed == bytes([number + 1, 0, 0, 0]))
 
 
@@ -344,24 +344,24 @@ def lines_until(file, count):
 
 def check_watch(checks):
     place = Place(checks, "watch", EXAMPLES / "pair.elf", (EXAMPLES / "pair.in").read_bytes())
-    out, said = checks.folder / "watched", checks.folder / "again said"
-    with open(out, "wb") as stdout, open(said, "wb") as stderr:
+    printed, errors = checks.folder / "watched", checks.folder / "again errors"
+    with open(printed, "wb") as stdout, open(errors, "wb") as stderr:
         words = [TOOL, "--watch", place.guest, place.data, *ALONE]
         started = subprocess.Popen(words, stdin=subprocess.DEVNULL, stdout=stdout, stderr=stderr)
-        first = lines_until(said, 1)
+        first = lines_until(errors, 1)
         place.data.write_bytes((EXAMPLES / "pair.in").read_bytes()[:4096] + b"\x08\0\0\0")
-        second = lines_until(said, 2)
+        second = lines_until(errors, 2)
         place.data.rename(place.folder / "away")
-        third = lines_until(said, 3)
+        third = lines_until(errors, 3)
         (place.folder / "away").rename(place.data)
-        fourth = lines_until(said, 4)
+        fourth = lines_until(errors, 4)
         started.terminate()
         status = started.wait(SECONDS)
     counts = [b"there was no memo", b" 8 steps reused, 4 executed", b"can't be read", b" 12 steps reused, 0 executed"]
     right = len(fourth) == 4 and all(count in line for count, line in zip(counts, fourth))
     checks.expect(f"again --watch: {status} {fourth}", right and status == 143 and [first, second, third] == [
         fourth[:1], fourth[:2], fourth[:3]])
-    totals = [int.from_bytes(out.read_bytes()[at:at + 4], "little") for at in (0, 4, 8)]
+    totals = [int.from_bytes(printed.read_bytes()[at:at + 4], "little") for at in (0, 4, 8)]
     checks.expect(f"again --watch puts out what each run does: {totals}", totals == [12, 13, 13])
 
 

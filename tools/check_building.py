@@ -14,13 +14,13 @@ import signal
 import subprocess
 import time
 
-from checking import ROOT, SECONDS, is_gone
+from checking import ROOT, SECONDS, has_ended
 
 # What `rt` is here: it writes down its words and crates.txt, prints the lines of a file, waits if it is to, and makes the
 # program if it is to.
 FAKE = """#!/bin/sh
 echo "$*" >>"$FAKE/words"
-cat crates.txt >"$FAKE/asked"
+cat crates.txt >"$FAKE/proved"
 cat "$FAKE/lines"
 [ ! -f "$FAKE/waits" ] || { echo $$ >"$FAKE/pid"; sleep 60; }
 [ -f "$FAKE/program" ] || exit 1
@@ -73,35 +73,36 @@ def called(place, **more):
     """The script in its folder: its status, what was printed, and the lines on standard error."""
     how = {"stdin": subprocess.DEVNULL, "capture_output": True, "text": True, "timeout": SECONDS, "check": False}
     done = subprocess.run([place / "ithreads", "show", "two words"], env=around(place, **more), **how)
-    said = [re.sub(r", [0-9]+ s\)$", ")", line) for line in done.stderr.split("\n")]
-    return done.returncode, done.stdout, said
+    errors = [re.sub(r", [0-9]+ s\)$", ")", line) for line in done.stderr.split("\n")]
+    return done.returncode, done.stdout, errors
 
 
 def check_built(checks, what, lines, wanted):
-    """Between the first two lines and the last are the wanted ones; then the program has the words, and the C library is
-    asked for one heap of large pages, and for what the caller asks it."""
+    """Between the first two lines and the last are the wanted ones; then the program has the words, and the C library
+    gets the tunables for one heap of large pages, and the caller's own."""
     place = place_of(checks, what, lines, True)
-    status, printed, said = called(place)
+    status, printed, errors = called(place)
     wanted_of_it = f"program show two words\nglibc.malloc.hugetlb=1:glibc.malloc.arena_max=1:{TUNABLE}\n"
     checks.expect(f"{what}: the program runs: {status} {printed}", (status, printed) == (7, wanted_of_it))
-    checks.expect(f"{what}: the first line has the number of crates: {said[0]}",
-                  said[0].startswith("ithreads: ") and f" {len(crates_below())} crates " in said[0])
-    checks.expect(f"{what}: the second line names the way without a proof: {said[1]}", "tools/try" in said[1])
-    checks.expect(f"{what}: the lines between: {said[2:-2]}", said[2:-2] == wanted)
-    checks.expect(f"{what}: the last line: {said[-2:]}", said[-2].startswith("ithreads: built in ") and not said[-1])
-    checks.expect(f"{what}: what rt is asked", (place / "words").read_text() == "ci\n")
-    asked = sorted(re.findall(r"^(\w+)[ :]", (place / "asked").read_text(), re.M))
-    checks.expect(f"{what}: what it is asked to prove: {asked}", asked == crates_below())
+    checks.expect(f"{what}: the first line has the number of crates: {errors[0]}",
+                  errors[0].startswith("ithreads: ") and f" {len(crates_below())} crates " in errors[0])
+    checks.expect(f"{what}: the second line names the way without a proof: {errors[1]}", "tools/try" in errors[1])
+    checks.expect(f"{what}: the lines between: {errors[2:-2]}", errors[2:-2] == wanted)
+    checks.expect(f"{what}: the last line: {errors[-2:]}",
+                  errors[-2].startswith("ithreads: built in ") and not errors[-1])
+    checks.expect(f"{what}: the words of rt", (place / "words").read_text() == "ci\n")
+    proved = sorted(re.findall(r"^(\w+)[ :]", (place / "proved").read_text(), re.M))
+    checks.expect(f"{what}: the crates that rt proves: {proved}", proved == crates_below())
 
 
 def check_refused(checks, lines, wanted):
     """The lines of the crates before it, the last that `rt ci` printed, and that building failed."""
-    status, printed, said = called(place_of(checks, "one is refused", lines, False))
+    status, printed, errors = called(place_of(checks, "one is refused", lines, False))
     checks.expect(f"one is refused: {status} {printed}", (status, printed) == (125, ""))
     shown = lines.splitlines()[-20:]
-    checks.expect(f"one is refused: {said[2:-2]}", said[2:-2] == wanted + shown)
-    failed = said[-2].startswith("ithreads: building failed after ") and not said[-1]
-    checks.expect(f"one is refused: the last line: {said[-2:]}", failed)
+    checks.expect(f"one is refused: {errors[2:-2]}", errors[2:-2] == wanted + shown)
+    failed = errors[-2].startswith("ithreads: building failed after ") and not errors[-1]
+    checks.expect(f"one is refused: the last line: {errors[-2:]}", failed)
 
 
 def check(checks):
@@ -132,10 +133,10 @@ def check_without(checks):
                       ({"ITHREADS_NO_BUILD": "1"}, "ITHREADS_NO_BUILD is set")):
         what = f"not to be built by {next(iter(more))}"
         place = place_of(checks, what, "", True)
-        status, printed, said = called(place, **more)
-        checks.expect(f"{what}: {status} {printed} {said}",
-                      (status, printed) == (125, "") and said[0].endswith(end) and said[1:] == [""])
-        checks.expect(f"{what}: rt isn't asked", not (place / "words").read_text())
+        status, printed, errors = called(place, **more)
+        checks.expect(f"{what}: {status} {printed} {errors}",
+                      (status, printed) == (125, "") and errors[0].endswith(end) and errors[1:] == [""])
+        checks.expect(f"{what}: rt isn't called", not (place / "words").read_text())
 
 
 def check_age(checks):
@@ -154,14 +155,14 @@ def check_age(checks):
         for file, seconds in ((source, of_source), (commits, of_commit)):
             at = program.stat().st_mtime + seconds
             os.utime(file, (at, at))
-        status, printed, said = called(place)
-        right = status == 7 and printed.startswith("program show") and said == [*wanted, ""]
-        checks.expect(f"a source of {of_source} s after the program, a commit of {of_commit} s: {status} {printed} {said}",
-                      right)
+        status, printed, errors = called(place)
+        right = status == 7 and printed.startswith("program show") and errors == [*wanted, ""]
+        what = f"a source of {of_source} s after the program, a commit of {of_commit} s"
+        checks.expect(f"{what}: {status} {printed} {errors}", right)
 
 
 def check_stopped(checks, lines):
-    """What is left where a signal ends the script while `rt` runs."""
+    """What remains where a signal ends the script while `rt` runs."""
     place = place_of(checks, "stopped", lines, True)
     temporary, pid = place / "temporary", place / "pid"
     temporary.mkdir()
@@ -173,9 +174,9 @@ def check_stopped(checks, lines):
         while not (pid.exists() and pid.read_text()) and time.monotonic() < end:
             time.sleep(0.02)
         started.send_signal(how)
-        said = started.communicate(timeout=SECONDS)[1].decode()
-        is_ended = is_gone(pid.read_text().strip())
-        left = [*temporary.iterdir(), *(place / "crates").glob("*/out/*")]
-        checks.expect(f"stopped by {how.name}: {started.returncode} {is_ended} {left} {said}",
-                      started.returncode == status and is_ended and not left and "Terminated" not in said)
+        errors = started.communicate(timeout=SECONDS)[1].decode()
+        is_ended = has_ended(pid.read_text().strip())
+        remaining = [*temporary.iterdir(), *(place / "crates").glob("*/out/*")]
+        checks.expect(f"stopped by {how.name}: {started.returncode} {is_ended} {remaining} {errors}",
+                      started.returncode == status and is_ended and not remaining and "Terminated" not in errors)
         pid.unlink()

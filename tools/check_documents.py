@@ -2,7 +2,7 @@
 
   - Each block of commands is run as it is written, in the order of these documents, in one folder that has the
     repository's files by links; `./ithreads` stands in for `tools/try`. It ends with status 0, or with the one that is
-    said here. A C file that the text names is the one that it shows.
+    written here. A C file that the text names is the one that it shows.
   - A block behind it that shows what is printed is part of what was printed, but for seconds; up to a line of two dots.
   - The makefile's rule builds, reuses, and leaves alone what hasn't changed.
 
@@ -25,7 +25,7 @@ NOT_RUN = ("tools/install", "tools/explore", "audit.elf")
 STATUSES = {"diff <(": 1, "one-word.in": 1}  # of blocks with these words
 SAVED = re.compile(r"[Ss]aved? (?:it )?as `(\w+\.c)`")
 QUOTED = {"step 19 ": "docs/GUESTS.md"}  # how a block begins whose lines are those of another document
-TOTAL = 5000, b"\x21", b"2 executed"  # a byte of mine.in, another one, and what is said of the call after that
+TOTAL = 5000, b"\x21", b"2 executed"  # a byte of mine.in, another one, and what the call after that prints
 
 
 class Place:
@@ -87,16 +87,16 @@ def check_document(place, document):
 def check_makefile(place, what, rule):
     """Sums of bytes, which python3 adds up too."""
     (place.folder / "Makefile").write_text(rule)
-    data, (at, byte, said_of_it) = place.folder / "mine.in", TOTAL
+    data, (at, byte, wanted_after) = place.folder / "mine.in", TOTAL
     before = data.read_bytes()
     after = before[:at] + byte + before[at + 1:]
-    for text, said in ((before, b"from scratch"), (after, said_of_it), (None, b"up to date")):
+    for text, wanted in ((before, b"from scratch"), (after, wanted_after), (None, b"up to date")):
         if text is not None:
             data.write_bytes(text)
-        status, printed, told = ran_whole("make", cwd=place.folder)
+        status, printed, errors = ran_whole("make", cwd=place.folder)
         total = (place.folder / "count.txt").read_bytes()
-        right = status == 0 and total == str(sum(data.read_bytes())).encode() and said in printed + told.encode()
-        place.checks.expect(f"{what}: {status} {printed} {told} {total}", right)
+        right = status == 0 and total == str(sum(data.read_bytes())).encode() and wanted in printed + errors.encode()
+        place.checks.expect(f"{what}: {status} {printed} {errors} {total}", right)
     data.write_bytes(before)
 
 

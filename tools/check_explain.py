@@ -2,7 +2,7 @@
 
   - Each refusal of an executable, a memo, an edit list, a schedule, and each line of a status that docs/FORMATS.md has,
     has a sentence; so has each end. A line that is none of these is refused.
-  - Lines of the program, of words and files that are made wrong here, and what is said of them.
+  - Lines of the program, of words and files that are made wrong here, and their sentences.
   - With --guest, of runs of small guests: who waits for whom, the address of a trap and what is there, which limit was
     reached, and whose stack was too small. A report of another guest is found out.
   - A guest that prints and then traps loses what it printed, but for `guest/build --unbuffered`.
@@ -37,7 +37,7 @@ C_FILES = {
             "int main(void) { it_thread_create(work, 3); it_thread_create(work, 40); it_thread_join(1, 0);\n"
             "    return it_thread_join(2, 0); }\n",
 }
-SAID = {
+WANTED = {
     "trap": ["thread 1 stores to an address that isn't a multiple", "thread 1 was in work, trap.c:2",
              "the address was 0x00000006: a null pointer"],
     "null": ["thread 0 was in second, null.c:3", "the address was 0x00000004: a null pointer, or a member"],
@@ -49,11 +49,11 @@ SAID = {
                "step 4095, of thread 0, was the last that --steps allows; it was in main, yields.c:2"],
     "deep": ["thread 2 used more than the 65,536 bytes of its stack", "into the stack of thread 1"],
 }
-SAYING = {  # what says a line, and what stands before its text
+MESSAGE_CALLS = {  # calls with a message, and what stands before its text
     "refuse": "", "say": "", "error": "error: ", "NotBuilt": "", "Ended": "", "NoGuest": "FILE: ",
     "NoSymbols": "FILE: ", "NotReports": "FILE: ",
 }
-SAID_BY_OTHERS = [
+OTHER_LINES = [
     "build: there is nothing to start: a guest has a function main, and without --libc it includes ithreads.h.",
     "build: not there: time (a.c:3), clock (a.c:4),", "build: malloc is there twice. malloc, free and their like, exit, and",
     "build: a.c:3: the function main has 70,000 bytes of variables, more than 49,152 bytes.",
@@ -118,37 +118,37 @@ def kinds_of(text):
 
 
 def check_words(checks):
-    """What is said of words that aren't taken."""
+    """The sentences of words that aren't understood."""
     for words, wanted in ((["--version"], "file VERSION"), (["gen", "1", "--workers", "17"], "--workers is from 1 to 16,"),
                           (["run"], "--help` shows")):
-        said = sentences.explained(program(*words)[2])
-        checks.expect(f"what is said of the words {words}: {said}", wanted in said)
+        sentence = sentences.explained(program(*words)[2])
+        checks.expect(f"the sentence of the words {words}: {sentence}", wanted in sentence)
 
 
 def check_table(checks):
-    told = [*lines_of_formats(), *LINES, *(f"end trap 1 00010000 {cause}" for cause in range(9))]
-    without = [line for line in told if not sentences.explained(line)]
-    checks.expect(f"{len(told)} lines have sentences, but for {without}", not without and len(told) > 60)
+    lines = [*lines_of_formats(), *LINES, *(f"end trap 1 00010000 {cause}" for cause in range(9))]
+    without = [line for line in lines if not sentences.explained(line)]
+    checks.expect(f"{len(lines)} lines have sentences, but for {without}", not without and len(lines) > 60)
     unknown = [line for line in ("image", "end", "end exit", "memo: digest", "", "step 3") if sentences.explained(line)]
     checks.expect(f"other lines have no sentence, but for {unknown}", not unknown)
-    status, printed, said = tool("explain", "end spent")
+    status, printed, errors = tool("explain", "end spent")
     wanted = f"{sentences.explained('end spent')}\n"
-    checks.expect(f"explain: {status} {said}", (status, printed.decode()) == (0, wanted))
+    checks.expect(f"explain: {status} {errors}", (status, printed.decode()) == (0, wanted))
     for line in ("memo: digest", ""):
-        status, printed, said = tool("explain", line)
-        checks.expect(f"explain `{line}`: {status} {said}", status == 1 and not printed and "no line" in said)
+        status, printed, errors = tool("explain", line)
+        checks.expect(f"explain `{line}`: {status} {errors}", status == 1 and not printed and "no line" in errors)
 
 
 def lines_of_tools():
-    """Each line that a tool of this folder says on standard error, with another text for what it puts in, by its source:
-    what it refuses, and what it raises to be refused."""
+    """Each line that a tool of this folder prints on standard error, with another text for what it inserts, by its
+    source: what it refuses, and what it raises to be refused."""
     for file in sorted((ROOT / "tools").iterdir()):
-        if file.name.startswith("check_") or file.name == "blocks.py" or not is_python(file):  # which says nothing
+        if file.name.startswith("check_") or file.name == "blocks.py" or not is_python(file):  # which prints nothing
             continue
         for node in ast.walk(ast.parse(file.read_text())):
             name = getattr(node.func, "attr", getattr(node.func, "id", "")) if isinstance(node, ast.Call) else ""
-            if name in SAYING and node.args and (text := text_of(node.args[-1])):
-                yield f"tools/{file.name.removesuffix('.py')}: {SAYING[name]}{text}"
+            if name in MESSAGE_CALLS and node.args and (text := text_of(node.args[-1])):
+                yield f"tools/{file.name.removesuffix('.py')}: {MESSAGE_CALLS[name]}{text}"
 
 
 def is_python(file):
@@ -163,22 +163,22 @@ def text_of(node):
 
 
 def check_tools(checks):
-    """Each line of a tool has a sentence, and so has what the launcher and guest/build say."""
-    told = [*lines_of_tools(), *SAID_BY_OTHERS]
-    without = [line for line in told if not tool_lines.explained(line)]
-    checks.expect(f"{len(told)} lines of the tools have sentences, but for {without}", not without and len(told) > 60)
+    """Each line of a tool has a sentence, and so has each line of the launcher and of guest/build."""
+    lines = [*lines_of_tools(), *OTHER_LINES]
+    without = [line for line in lines if not tool_lines.explained(line)]
+    checks.expect(f"{len(lines)} lines of the tools have sentences, but for {without}", not without and len(lines) > 60)
     others = ("tools/why", "tools/why: ", "why 3", "build", "ithreads: other")
     unknown = [line for line in others if tool_lines.explained(line)]
     checks.expect(f"other lines have no sentence, but for {unknown}", not unknown)
     for line, wanted in (("tools/verify: none can't be read: No such file or directory", "there is no file none"),
                          ("ithreads-timeline: ithreads ended with status 4: memo: Digest", "the memo is damaged"),
                          ("tools/run: round 0 ended by spent: it had 4096 steps", "--steps 65536")):
-        status, printed, said = tool("explain", line)
-        checks.expect(f"explain `{line}`: {printed} {said}", status == 0 and wanted in printed.decode())
+        status, printed, errors = tool("explain", line)
+        checks.expect(f"explain `{line}`: {printed} {errors}", status == 0 and wanted in printed.decode())
 
 
 def check_files(checks):
-    """The program's lines on files that are wrong, and what is said of these."""
+    """The program's lines on files that are wrong, and their sentences."""
     hi, empty, data = EXAMPLES / "hi.elf", EXAMPLES / "empty", EXAMPLES / "pair.in"
     large, text = checks.file("large", bytes(1_048_577)), checks.file("text", b"some text\n")
     far = checks.file("far", b"set 9999999 00\n")
@@ -192,14 +192,14 @@ def check_files(checks):
                           (("replay", hi, empty, empty), "ends before the run"),
                           (("runs",), "isn't understood")):
         status, _, line = program(*words)
-        told = sentences.explained(line) or ""
-        checks.expect(f"explain {line}, of {words}: {status} {told}", wanted in told)
+        sentence = sentences.explained(line) or ""
+        checks.expect(f"explain {line}, of {words}: {status} {sentence}", wanted in sentence)
 
 
-def explained(words, printed):
-    """What is said of reports that are piped to the tool."""
+def explained(words, report):
+    """The status of the tool on reports from a pipe, and what it prints."""
     tool_words = [ROOT / "tools/explain", *map(str, words)]
-    done = subprocess.run(tool_words, input=printed, capture_output=True, timeout=SECONDS, check=False)
+    done = subprocess.run(tool_words, input=report, capture_output=True, timeout=SECONDS, check=False)
     return done.returncode, done.stdout.decode()
 
 
@@ -207,52 +207,53 @@ def check_guests(checks):
     pair = [EXAMPLES / "pair.elf", EXAMPLES / "pair.in"]
     cross = [EXAMPLES / "cross.elf", EXAMPLES / "empty"]
     _, report, _ = program("run", *cross, "--workers", "1")
-    status, told = explained(("--guest", *cross), report)
+    status, printed = explained(("--guest", *cross), report)
     shown = ("round 0: thread 0 waits for mutex 1, held by thread 1, in 00010028\n"
              "round 0: thread 1 waits for mutex 0, held by thread 0, in 00010070\n")
-    checks.expect(f"who waits in cross.elf: {status} {told}", status == 0 and told.endswith(shown))
+    checks.expect(f"who waits in cross.elf: {status} {printed}", status == 0 and printed.endswith(shown))
     guide = (ROOT / "tools/README.md").read_text()
     checks.expect("tools/README.md shows who waits in cross.elf", f"```\n{shown}```" in guide)
-    status, told = explained(("--guest", *pair), report)
-    checks.expect(f"the report of another guest: {status} {told}", "the schedule is of another guest" in told)
+    status, printed = explained(("--guest", *pair), report)
+    checks.expect(f"the report of another guest: {status} {printed}", "the schedule is of another guest" in printed)
     _, report, _ = program("run", *pair, EXAMPLES / "pair.edits", "--workers", "1")
-    status, told = explained(("--guest", *pair, EXAMPLES / "pair.edits"), report)
-    right = status == 0 and told.count("\n") == 1 and "exit code 0" in told
-    checks.expect(f"two rounds that exit: {status} {told}", right)
+    status, printed = explained(("--guest", *pair, EXAMPLES / "pair.edits"), report)
+    right = status == 0 and printed.count("\n") == 1 and "exit code 0" in printed
+    checks.expect(f"two rounds that exit: {status} {printed}", right)
     for words in (("--guest", *pair), ("end spent", "--guest", *pair)):  # one input alone, and a line
-        status, told = explained(words, report)
-        checks.expect(f"two rounds, {words}: {status} {told}", status == 2)
+        status, printed = explained(words, report)
+        checks.expect(f"two rounds, {words}: {status} {printed}", status == 2)
 
 
 def check_built(checks):
     """Guests in C that end in other ways."""
     if not (shutil.which("clang") and shutil.which("ld.lld") and shutil.which("llvm-symbolizer")):
-        print("skipped: what is said of traps and stacks, since there is no clang with lld and llvm-symbolizer")
+        print("skipped: the sentences of traps and stacks, since there is no clang with lld and llvm-symbolizer")
         return
     for name, text in C_FILES.items():
         source, elf = checks.file(f"{name}.c", f'#include "ithreads.h"\n{text}'.encode()), checks.folder / f"{name}.elf"
         ran_whole(str(ROOT / "guest/build"), "--symbols", str(source), str(elf))
         _, report, _ = program("run", elf, EXAMPLES / "empty", "--workers", "1")
-        status, told = explained(("--guest", elf, EXAMPLES / "empty"), report)
-        without = [said for said in SAID[name] if said not in told]
-        checks.expect(f"what is said of {name}.c, but for {without}: {status} {told}", status == 0 and not without)
+        status, printed = explained(("--guest", elf, EXAMPLES / "empty"), report)
+        without = [line for line in WANTED[name] if line not in printed]
+        checks.expect(f"the sentences of {name}.c, but for {without}: {status} {printed}", status == 0 and not without)
     elf = checks.folder / "spins.elf"
     _, report, _ = program("run", elf, EXAMPLES / "empty", "--workers", "1", "--fuel", "16777216")
     for words in ((), ("--fuel", "16777216"), ("--guest", elf, EXAMPLES / "empty")):
-        _, told = explained(words, report)
-        right = "16,777,216 instructions without a call" in told and "--yield-every 100000" in told
-        checks.expect(f"the largest fuel, {words}: {told}", right and "give --fuel" not in told)
+        _, printed = explained(words, report)
+        right = "16,777,216 instructions without a call" in printed and "--yield-every 100000" in printed
+        checks.expect(f"the largest fuel, {words}: {printed}", right and "give --fuel" not in printed)
 
 
 def check_fuel(checks):
     """Reports of two executed steps, which don't say what the fuel was: as many instructions as both have, or fewer."""
-    for instructions, said, isnt in ((16_777_217, "give --fuel 16777216; if that was given, a step has no more", "1,000,000 instr"),
-                                     (1_000_005, "(1,000,000 unless it is given) without a call: give --fuel 16777216. A",
-                                      "if that was given")):
+    for instructions, wanted, unwanted in (
+            (16_777_217, "give --fuel 16777216; if that was given, a step has no more", "1,000,000 instr"),
+            (1_000_005, "(1,000,000 unless it is given) without a call: give --fuel 16777216. A", "if that was given")):
         report = (f"round 0\nend spent\nsteps 2\nreused 0\nexecuted 2\ninstructions {instructions}\nby 2\n"
                   f"schedule 0+ 1+\nmemory {'0' * 64}\noutput 0\n\n")
-        status, told = explained((), report.encode())
-        checks.expect(f"a spent fuel that isn't said: {status} {told}", status == 0 and said in told and isnt not in told)
+        status, printed = explained((), report.encode())
+        right = status == 0 and wanted in printed and unwanted not in printed
+        checks.expect(f"a spent fuel that isn't known: {status} {printed}", right)
 
 
 def check_parts(checks):
@@ -260,15 +261,15 @@ def check_parts(checks):
     counts = "tools/again: 0 steps reused, 1 executed, 0.27 s from scratch; there was no memo"
     for line, wanted in (
             (f"{counts}; a limit was reached, so it ran again with --fuel 16777216 --steps 65536; round 0 ended by "
-             "spent: thread 3 went on without a call for as many turns as --fuel allows",
+             "spent: thread 3 ran without a call for as many turns as --fuel allows",
              "a step of thread 3 had as many instructions as --fuel allows without a call. If no --fuel was given"),
             (f"{counts}; round 0 ended by deadlock", "each thread waits for another"),
             (counts, "nothing was kept of a call before"),
             ("tools/again: 8 steps reused, 4 executed, 0.27 s; from scratch 1.00 s", "so many steps were taken"),
             ("build: not there: time (two.c:3).", "a guest has no time (two.c:3); the lines behind"),
             ("build: main is there twice. malloc, free and their like, exit,", "two of the C files have a main")):
-        status, printed, said = tool("explain", line)
-        checks.expect(f"explain `{line}`: {printed} {said}", status == 0 and printed.decode().startswith(wanted))
+        status, printed, errors = tool("explain", line)
+        checks.expect(f"explain `{line}`: {printed} {errors}", status == 0 and printed.decode().startswith(wanted))
 
 
 def check_unbuffered(checks):

@@ -36,12 +36,12 @@ def digest(made):
     return hashlib.sha256(b"".join(made.shared[page] for page in sorted(made.shared))).hexdigest()
 
 
-def said_by(made):
-    """What a report or a replay says of a run."""
+def result_of(made):
+    """The result of a run, as a report or a replay has it."""
     return made.ended, len(made.steps), made.instructions, digest(made), bytes(made.output)
 
 
-def said_in(report):
+def result_in(report):
     return reports.end_text(report.end), report.steps, report.instructions, report.memory, report.output
 
 
@@ -56,8 +56,8 @@ def check_runs(checks):
         words = [EXAMPLES / f"{name}.elf", EXAMPLES / data, "--workers", "1", "--fuel", fuel, "--steps", steps]
         report = next(reports.rounds(program("run", *words)[1]))
         made = machine.Machine(*image_and_input(name, data), fuel, steps).run(machine.by_rule)
-        checks.expect(f"{name}.elf, fuel {fuel}, {steps} steps: {said_by(made)}, and the program {said_in(report)}",
-                      said_by(made) == said_in(report)
+        checks.expect(f"{name}.elf, fuel {fuel}, {steps} steps: {result_of(made)}, and the program {result_in(report)}",
+                      result_of(made) == result_in(report)
                       and [step.thread for step in made.steps] == [thread for thread, _ in report.schedule])
 
 
@@ -69,10 +69,10 @@ def check_orders(checks):
         for _ in range(orders):
             made = machine.Machine(image, data).run(lambda _, ready: checks.random.choice(ready))
             order = checks.file("order", " ".join(str(step.thread) for step in made.steps).encode())
-            _, printed, said = program("replay", EXAMPLES / f"{name}.elf", EXAMPLES / inputs[name], order)
-            replayed = said_in(reports.replay(printed)) if printed else said
-            what = f"{name}.elf in a drawn order: {said_by(made)}, and replayed {replayed}"
-            checks.expect(what, said_by(made) == replayed)
+            _, printed, errors = program("replay", EXAMPLES / f"{name}.elf", EXAMPLES / inputs[name], order)
+            replayed = result_in(reports.replay(printed)) if printed else errors
+            what = f"{name}.elf in a drawn order: {result_of(made)}, and replayed {replayed}"
+            checks.expect(what, result_of(made) == replayed)
 
 
 def groups_of(printed):
@@ -86,19 +86,19 @@ def check_groups(checks):
     answers = {}
     for words in (("--jobs", "1"), ("--jobs", "3"), ("--seed", "2")):
         into = checks.folder / "order"
-        status, printed, said = tool("explore", cross, empty, "--tries", 40, "--check", "--into", into, *words)
+        status, printed, errors = tool("explore", cross, empty, "--tries", 40, "--check", "--into", into, *words)
         groups, answers[words] = groups_of(printed), printed
         right = status == 1 and sorted(end for _, end in groups) == ["deadlock", "exit 0"] and sum(
             count for count, _ in groups) == 40
         right = right and printed.count(b"the same") == 2
-        checks.expect(f"explore cross.elf {words}: {status} {said} {printed}", right)
+        checks.expect(f"explore cross.elf {words}: {status} {errors} {printed}", right)
         parted = re.search(rb"schedule in \S+order[.](\d)\n    other ", printed).group(1).decode()
         entry = int(re.search(rb"parts from group . at entry (\d+)", printed).group(1))
         one, other = ((checks.folder / f"order.{parted}{more}").read_text().split() for more in ("", ".other"))
         checks.expect(f"explore: where they part, {entry}", one[:entry] == other[:entry] and one[entry] != other[entry])
     same, other, third = answers.values()
     checks.expect("explore: one seed, one answer", same == other != third)
-    status, printed, said = tool("explore", EXAMPLES / "hi.elf", empty, "--tries", 3)
+    status, printed, errors = tool("explore", EXAMPLES / "hi.elf", empty, "--tries", 3)
     checks.expect(f"explore with one group: {status} {printed}", status == 0 and groups_of(printed) == [(3, "exit 0")])
 
 
@@ -106,12 +106,13 @@ def check_into(checks):
     """Files of an earlier call that would stay beside those of this one."""
     words, into = (EXAMPLES / "hi.elf", EXAMPLES / "empty", "--tries", 3, "--into"), checks.folder / "into"
     for name, wanted in (("into.1", 0), ("into.two", 0), ("into.1.other", 2), ("into.2", 2)):
-        kept = checks.file(name, b"before")
-        status, _, said = tool("explore", *words, into)
+        file = checks.file(name, b"before")
+        status, _, errors = tool("explore", *words, into)
         written = (checks.folder / "into.1").read_bytes() != b"before"
-        checks.expect(f"explore --into, where {name} is there: {status} {said}",
-                      status == wanted and (written or name != "into.1") and (f"{kept} is there" in said) == (wanted == 2))
-        kept.unlink()
+        right = status == wanted and (written or name != "into.1")
+        checks.expect(f"explore --into, where {name} is there: {status} {errors}",
+                      right and (f"{file} is there" in errors) == (wanted == 2))
+        file.unlink()
     (checks.folder / "into.1").unlink(missing_ok=True)
 
 
@@ -121,8 +122,8 @@ def check_refused(checks):
                          ((empty, empty), "no executable"),
                          ((EXAMPLES / "hi.elf", empty, "--tries", "0"), "usage"),
                          ((EXAMPLES / "hi.elf", empty, "--into", checks.folder / "none/none"), "can't be written")):
-        status, printed, said = tool("explore", *words)
-        checks.expect(f"explore {words}: {status} {said}", status == 2 and begun in said)
+        status, _, errors = tool("explore", *words)
+        checks.expect(f"explore {words}: {status} {errors}", status == 2 and begun in errors)
 
 
 def check_guide(checks):
@@ -134,9 +135,9 @@ def check_guide(checks):
     for name in SHOWN:
         elf = checks.folder / f"{name}.elf"
         ran_whole(str(ROOT / "guest/build"), "--libc", "--symbols", str(EXAMPLES / f"schedules/{name}.c"), str(elf))
-        status, printed, said = tool("explore", elf, EXAMPLES / "empty", "--check")
+        status, printed, errors = tool("explore", elf, EXAMPLES / "empty", "--check")
         shown = printed.decode().replace("    replayed: the same\n", "")
-        checks.expect(f"tools/README.md shows what is found of {name}.c: {status} {said}\n{shown}",
+        checks.expect(f"tools/README.md shows what is found of {name}.c: {status} {errors}\n{shown}",
                       status == 1 and f"```\n{shown}```\n" in guide)
 
 

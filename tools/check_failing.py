@@ -11,7 +11,7 @@ import signal
 import subprocess
 import time
 
-from checking import EXAMPLES, ROOT, SECONDS, is_gone, program, ran_whole
+from checking import EXAMPLES, ROOT, SECONDS, has_ended, program, ran_whole
 
 PAIR = [EXAMPLES / f"pair.{word}" for word in ("elf", "in", "edits")]
 SPINS = "#!/bin/sh\necho $$ >{}\nexec sleep 60\n"  # in place of the program
@@ -43,7 +43,7 @@ class Place:
         return ran_whole("bash", "-c", line, "bash", *map(str, words), env={**os.environ, **more})
 
     def expect(self, what, got, status, *parts):
-        """A status, and what is said, which is no traceback."""
+        """A status, and parts of standard error, which has no traceback."""
         right = got[0] == status and all(part in got[2] for part in parts) and "Traceback" not in got[2]
         self.checks.expect(f"{what}: {got[0]} {got[1][-60:]} {got[2]}", right)
 
@@ -113,7 +113,7 @@ def check_numbers(place):
 
 
 def check_unbuilt(place):
-    """What is said if the program isn't built, and can't be."""
+    """What the tools do if the program isn't built, and can't be."""
     place.put(NOT_BUILT)
     for status, *words in ((210, "run", *PAIR[:2]), (210, "again", place.folder / "hi.elf", EXAMPLES / "empty"),
                            (2, "verify", *PAIR, place.reports), (2, "memo", place.memo, "--audit"),
@@ -121,15 +121,15 @@ def check_unbuilt(place):
                            (2, "explore", *PAIR[:2], "--tries", 2, "--check")):
         got = place.run('exec "$@"', place.folder / "other/tools" / words[0], *words[1:])
         place.expect(f"{words} without the program", got, status, "125: the program isn't built, and can't be")
-    kept = place.checks.file("kept", b"before")
-    place.run('exec "$@"', place.folder / "other/tools/run", *PAIR[:2], "--report", kept)
-    place.checks.expect("run --report FILE without a report leaves the file", kept.read_bytes() == b"before")
+    file = place.checks.file("report", b"before")
+    place.run('exec "$@"', place.folder / "other/tools/run", *PAIR[:2], "--report", file)
+    place.checks.expect("run --report FILE without a report leaves the file", file.read_bytes() == b"before")
     got = place.run('exec "$@" </dev/null', place.folder / "other/tools/memo", "-", "--audit")
     place.expect("memo --audit of standard input", got, 2, "usage")
 
 
 def ended(place, how, name, words):
-    """The status, standard error, and whether the program is gone, of a tool that a signal ends while that runs."""
+    """The status, standard error, and whether the program has ended, of a tool that a signal ends while that runs."""
     place.pid.unlink(missing_ok=True)
     line = [place.folder / "other/tools" / name, *map(str, words)]
     started = subprocess.Popen(line, stdin=subprocess.DEVNULL, stdout=subprocess.DEVNULL, stderr=subprocess.PIPE,
@@ -138,8 +138,8 @@ def ended(place, how, name, words):
     while not (place.pid.exists() and place.pid.read_text()) and time.monotonic() - begun < SECONDS:
         time.sleep(0.02)
     started.send_signal(how)
-    said = started.communicate(timeout=SECONDS)[1].decode()
-    return started.returncode, said, is_gone(place.pid.read_text().strip())
+    errors = started.communicate(timeout=SECONDS)[1].decode()
+    return started.returncode, errors, has_ended(place.pid.read_text().strip())
 
 
 def check_signals(place):
@@ -150,8 +150,8 @@ def check_signals(place):
         for how, status in ((signal.SIGINT, 130), (signal.SIGTERM, 143)):
             got = ended(place, how, name, words)
             place.checks.expect(f"{name}, ended by {how.name}: {got}", got == (status, "", True))
-            left = list(place.temporary.iterdir()) + list(place.folder.glob(".*.again/part.*"))
-            place.checks.expect(f"{name}, ended by {how.name}: {left} are left", not left)
+            remaining = list(place.temporary.iterdir()) + list(place.folder.glob(".*.again/part.*"))
+            place.checks.expect(f"{name}, ended by {how.name}: {remaining} remain", not remaining)
 
 
 def check_processes(place):
@@ -162,9 +162,9 @@ def check_processes(place):
                                    start_new_session=True)
         time.sleep(2)
         os.killpg(started.pid, how)
-        said = started.communicate(timeout=SECONDS)[1].decode()
-        place.checks.expect(f"explore and its processes, ended by {how.name}: {started.returncode} {said}",
-                            started.returncode == status and "Traceback" not in said)
+        errors = started.communicate(timeout=SECONDS)[1].decode()
+        place.checks.expect(f"explore and its processes, ended by {how.name}: {started.returncode} {errors}",
+                            started.returncode == status and "Traceback" not in errors)
 
 
 def check(checks):

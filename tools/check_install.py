@@ -2,7 +2,8 @@
 
   - What is installed is what the list has, names no file of the repository, and names the tools as they are called
     then. Each command does from another folder what it does here, where the repository can't be seen, if this user may
-    hide it. What is installed anew replaces what was there, and what is removed is gone; another list is refused.
+    hide it. What is installed anew replaces what was there, and what is removed isn't there
+    afterwards; another list is refused.
   - The manual page has no fault that `mandoc` or `man` finds; it has the version, each command and option that the
     program has, and each command that is installed.
   - In bash and, if there is one, in zsh, what is begun is completed: commands, options that `--help` has, and files.
@@ -76,7 +77,7 @@ def hiding():
 def named_examples(text):
     """The files of examples/ that a document names, but for the scripts that check others."""
     for name in re.findall(r"\bexamples/[\w./-]*\w(?:\.\{[\w,]+\}[\w.]*\w|\.\{[\w,]+\})?", text):
-        before, brace, rest = name.partition("{")
+        before, _, rest = name.partition("{")
         many, _, behind = rest.partition("}")
         yield from (f"{before}{one}{behind}" for one in many.split(",") if not name.endswith("/check"))
 
@@ -113,12 +114,12 @@ def check_files(checks, place):
 def check_commands(checks, place, commands):
     """Each command says with --help what it is; those that are tools name themselves as they are called."""
     for name in sorted(commands):
-        status, printed, said = place.ran(name, "--help")
-        right = status == 2 and "Usage" in said if name == "ithreads" else status == 0 or name == "ithreads-trace"
-        checks.expect(f"{name} --help: {status} {said[:60]}", right and "tools/" not in printed.decode())
+        status, printed, errors = place.ran(name, "--help")
+        right = status == 2 and "Usage" in errors if name == "ithreads" else status == 0 or name == "ithreads-trace"
+        checks.expect(f"{name} --help: {status} {errors[:60]}", right and "tools/" not in printed.decode())
     for words in ("why none none", "verify none none none", "again none none", "edits none none", "build --wrong"):
-        status, _, said = place.ran(*f"ithreads-{words}".split(" "))
-        checks.expect(f"{words}: {status} {said}", status != 0 and "tools/" not in said and "guest/" not in said)
+        status, _, errors = place.ran(*f"ithreads-{words}".split(" "))
+        checks.expect(f"{words}: {status} {errors}", status != 0 and "tools/" not in errors and "guest/" not in errors)
 
 
 def check_work(checks, place):
@@ -128,8 +129,8 @@ def check_work(checks, place):
     for file in PAIR:
         shutil.copy(file, place.folder)
     here = program("run", *PAIR, *ONE)[:2]
-    status, printed, said = place.ran("ithreads", "run", *files, *ONE, "--memo", memo, hide=hide)
-    checks.expect(f"ithreads run: {status} {said}", (status, printed) == here)
+    status, printed, errors = place.ran("ithreads", "run", *files, *ONE, "--memo", memo, hide=hide)
+    checks.expect(f"ithreads run: {status} {errors}", (status, printed) == here)
     (place.folder / "reports").write_bytes(printed)
     program("run", *PAIR[:2], *ONE, "--memo", checks.folder / "before")
     place.ran("ithreads", "run", *files[:2], *ONE, "--memo", memo, hide=hide)
@@ -140,8 +141,8 @@ def check_work(checks, place):
                                ("memo", (memo,), (checks.folder / "before",)),
                                ("explain", ("memo: Digest",), ("memo: Digest",)),
                                ("explore", (*files[:2], "--check"), (*PAIR[:2], "--check"))):
-        status, printed, said = place.ran(f"ithreads-{name}", *words, hide=hide)
-        checks.expect(f"ithreads-{name}: {status} {said}", (status, printed) == tool(name, *known)[:2])
+        status, printed, errors = place.ran(f"ithreads-{name}", *words, hide=hide)
+        checks.expect(f"ithreads-{name}: {status} {errors}", (status, printed) == tool(name, *known)[:2])
     check_again(checks, place, hide)
 
 
@@ -153,9 +154,9 @@ def check_again(checks, place, hide):
     (place.folder / "first.c").write_bytes(C_FILE)
     (place.folder / "data").write_bytes(b"A")
     for wanted in ("from scratch", "0 executed"):
-        status, printed, said = place.ran("ithreads-again", "first.c", "data", "--", *ONE, hide=hide)
-        checks.expect(f"ithreads-again: {status} {printed} {said}", (status, printed) == (7, b"65\n") and wanted in said
-                      and said.startswith("ithreads-again: "))
+        status, printed, errors = place.ran("ithreads-again", "first.c", "data", "--", *ONE, hide=hide)
+        right = (status, printed) == (7, b"65\n") and errors.startswith("ithreads-again: ")
+        checks.expect(f"ithreads-again: {status} {printed} {errors}", right and wanted in errors)
 
 
 def check_manual(checks, place, commands):
@@ -164,19 +165,19 @@ def check_manual(checks, place, commands):
     tried = {"mandoc": ["mandoc", "-Tlint", "-Wwarning"], "groff": ["groff", "-mdoc", "-ww", "-Tutf8", "-z"]}
     for name, words in tried.items():
         if shutil.which(name):
-            status, printed, said = ran_whole(*words, str(page))
-            checks.expect(f"{name}: {status} {printed.decode()}{said}", status == 0 and not printed and not said)
+            status, printed, errors = ran_whole(*words, str(page))
+            checks.expect(f"{name}: {status} {printed.decode()}{errors}", status == 0 and not printed and not errors)
     if not any(map(shutil.which, tried)):
         print("skipped: the manual page's form, since there is neither mandoc nor groff")
     checks.expect("the manual page has the version", f"\n.Os ithreads {VERSION}\n" in text and "@" not in text)
     parts = re.split(r"^\.Nm\n\.Cm ", text[text.index(".Sh SYNOPSIS"):text.index(".Sh DESCRIPTION")], flags=re.M)[1:]
     synopsis = {part.split("\n")[0]: set(re.findall(r"\.Op Fl -([a-z-]+)", part)) for part in parts}
-    told = set(re.findall(r"^\.It Cm ([a-z]+)", text, flags=re.M))
+    described = set(re.findall(r"^\.It Cm ([a-z]+)", text, flags=re.M))
     for name in commands_of_program():
         options = options_in(program_help(name)) - {"--help"}
         missing = {option[2:] for option in options} - synopsis.get(name, set())
         checks.expect(f"the manual page has the command {name} and its options, but for {missing}",
-                      name in told and not missing)
+                      name in described and not missing)
     missing = commands - {"ithreads"} - set(re.findall(r"^\.It Nm ([a-z-]+)", text, flags=re.M))
     checks.expect(f"the manual page has the tools, but for {missing}", not missing)
     for name in commands:
@@ -189,20 +190,20 @@ def program_help(*words):
 
 def commands_of_program():
     """Its commands, by its help, but for the one that shows it."""
-    told = program_help().partition("Commands:")[2].split("\n\n")[0]
-    return sorted(set(re.findall(r"^  ([a-z]+)\s", told, flags=re.M)) - {"help"})
+    text = program_help().partition("Commands:")[2].split("\n\n")[0]
+    return sorted(set(re.findall(r"^  ([a-z]+)\s", text, flags=re.M)) - {"help"})
 
 
-def options_in(told):
-    return set(re.findall(r"^ +(?:-[a-zA-Z], )?(--[a-z-]*[a-z])", told, flags=re.M))
+def options_in(text):
+    return set(re.findall(r"^ +(?:-[a-zA-Z], )?(--[a-z-]*[a-z])", text, flags=re.M))
 
 
 def check_bash(checks, place):
     """What is proposed for words that are begun."""
     def completed(*words):
         script = place.prefix / "share/bash-completion/completions/ithreads"
-        status, printed, said = place.ran("bash", "-c", COMPLETE, "-", script, *words)
-        checks.expect(f"completion of {words}: {said}", status == 0 and not said)
+        status, printed, errors = place.ran("bash", "-c", COMPLETE, "-", script, *words)
+        checks.expect(f"completion of {words}: {errors}", status == 0 and not errors)
         return set(printed.decode().split("\n")) - {""}
 
     here = {file.name for file in place.folder.iterdir()}
@@ -225,54 +226,55 @@ def check_zsh(checks, place):
     folder = place.prefix / "share/zsh/site-functions"
     setup = f"fpath=({folder} $fpath); autoload -U compinit; compinit -u -D; PS1="
     for begun, wanted in IN_ZSH:
-        status, printed, said = place.ran("zsh", "-fc", ZSH, "-", setup, begun)
-        told = printed.decode("utf-8", "replace").partition("READY")[2]
-        checks.expect(f"zsh completes `{begun}`: {status} {said} {told!r}", all(word in told for word in wanted))
+        status, printed, errors = place.ran("zsh", "-fc", ZSH, "-", setup, begun)
+        shown = printed.decode("utf-8", "replace").partition("READY")[2]
+        checks.expect(f"zsh completes `{begun}`: {status} {errors} {shown!r}", all(word in shown for word in wanted))
 
 
-def check_stopped(checks, place):
+def check_stopped(checks):
     """What an installation that was stopped has put in place can be removed."""
     stopped = Place(checks, checks.folder / "stopped")
     (stopped.prefix / "share").mkdir(parents=True)
     (stopped.prefix / "share/man").write_text("no folder")
     for words in ((), ("--uninstall",)):
-        status, _, said = tool("install", "--prefix", stopped.prefix, *words)
+        status, _, errors = tool("install", "--prefix", stopped.prefix, *words)
         wanted, part = (1, "share/man") if not words else (0, "")
-        checks.expect(f"install {words}, where a file stands in the way: {status} {said}",
-                      status == wanted and part in said and "Traceback" not in said)
+        checks.expect(f"install {words}, where a file stands in the way: {status} {errors}",
+                      status == wanted and part in errors and "Traceback" not in errors)
         (stopped.prefix / "share/man").unlink(missing_ok=True)
-    checks.expect(f"nothing is left of it: {stopped.files()}", not stopped.files())
+    checks.expect(f"nothing of it remains: {stopped.files()}", not stopped.files())
 
 
 def check_removal(checks, place):
-    """Installing anew removes what is no longer part of it; another list is refused; what is removed is gone."""
+    """Installing anew removes what is no longer part of it; another list is refused; what is removed isn't there."""
     home = place.prefix / "lib/ithreads"
     before, old = place.files(), home / "old"
     old.write_text("old")
     (place.prefix / "bin/own").write_text("own")
     (home / "files").write_text("".join(f"{name}\n" for name in [*before, "lib/ithreads/old"]))
-    status, _, said = tool("install", "--prefix", place.prefix)
-    checks.expect(f"it is installed anew: {status} {said}",
+    status, _, errors = tool("install", "--prefix", place.prefix)
+    checks.expect(f"it is installed anew: {status} {errors}",
                   status == 0 and place.files() == sorted([*before, "bin/own"]))
-    kept = (home / "files").read_text()
+    saved = (home / "files").read_text()
     for name in ("../outside", "/etc/passwd", "", "a\0b"):
         (home / "files").write_text(f"{name}\n")
-        status, _, said = tool("install", "--uninstall", "--prefix", place.prefix)
-        checks.expect(f"a list with {name!r}: {status} {said}", status == 1 and repr(name) in said)
+        status, _, errors = tool("install", "--uninstall", "--prefix", place.prefix)
+        checks.expect(f"a list with {name!r}: {status} {errors}", status == 1 and repr(name) in errors)
     (home / "files").write_bytes(b"lib/ithreads/\xff\nbin\n")
-    status, _, said = tool("install", "--uninstall", "--prefix", place.prefix)
-    checks.expect(f"a list with bytes and a folder: {status} {said}", status == 1 and "/bin: Is a directory" in said)
-    (home / "files").write_text(kept)
-    status, _, said = tool("install", "--uninstall", "--prefix", place.prefix)
-    checks.expect(f"it is removed, {place.files()}: {status} {said}", status == 0 and place.files() == ["bin/own"])
-    checks.expect("its folder is gone", not home.exists())
-    status, _, said = tool("install", "--uninstall", "--prefix", place.prefix)
-    checks.expect(f"nothing is there to be removed: {status} {said}", status == 1 and "no installation" in said)
+    status, _, errors = tool("install", "--uninstall", "--prefix", place.prefix)
+    checks.expect(f"a list with bytes and a folder: {status} {errors}",
+                  status == 1 and "/bin: Is a directory" in errors)
+    (home / "files").write_text(saved)
+    status, _, errors = tool("install", "--uninstall", "--prefix", place.prefix)
+    checks.expect(f"it is removed, {place.files()}: {status} {errors}", status == 0 and place.files() == ["bin/own"])
+    checks.expect("its folder is removed", not home.exists())
+    status, _, errors = tool("install", "--uninstall", "--prefix", place.prefix)
+    checks.expect(f"nothing is there to be removed: {status} {errors}", status == 1 and "no installation" in errors)
     for words in (("--prefix", "relative"), ("more",)):
         checks.expect(f"install {words}", tool("install", *words)[0] == 2)
     for name in TRIED:
-        status, printed, said = tool(name, "--help")
-        checks.expect(f"{name} --help: {status} {said}", status == 0 and b"status" in printed and not said)
+        status, printed, errors = tool(name, "--help")
+        checks.expect(f"{name} --help: {status} {errors}", status == 0 and b"status" in printed and not errors)
 
 
 def check_package(checks, files):
@@ -284,17 +286,17 @@ def check_package(checks, files):
     for number in range(2):
         folder = checks.folder / f"package{number}"
         folder.mkdir()
-        status, printed, said = ran_whole(str(ROOT / "tools/package"), str(folder))
-        if not checks.expect(f"a package is built: {status} {said}", status == 0 and not said):
+        status, printed, errors = ran_whole(str(ROOT / "tools/package"), str(folder))
+        if not checks.expect(f"a package is built: {status} {errors}", status == 0 and not errors):
             return
         made.append(pathlib.Path(printed.decode().strip()))
     checks.expect("the package has the same bytes each time", made[0].read_bytes() == made[1].read_bytes())
-    told = ran_whole("dpkg-deb", "--contents", str(made[0]))[1].decode()
-    names = {line.split(" ./usr/", 1)[1].split(" -> ")[0] for line in told.split("\n")[:-1] if not line.startswith("d")}
+    listing = ran_whole("dpkg-deb", "--contents", str(made[0]))[1].decode().split("\n")[:-1]
+    names = {line.split(" ./usr/", 1)[1].split(" -> ")[0] for line in listing if not line.startswith("d")}
     wanted = {f"{name}.gz" if name.startswith("share/man/") else name.replace("site-functions", "vendor-completions")
               for name in files if name != "lib/ithreads/files"}
     checks.expect(f"the package has the files: {names ^ wanted}", names == wanted)
-    owned = all(" root/root " in line for line in told.split("\n")[:-1])
+    owned = all(" root/root " in line for line in listing)
     about = ran_whole("dpkg-deb", "--field", str(made[0]), "Package", "Version", "Depends")[1].decode()
     needs = r"libc6 \(>= 2\.\d+\), python3 \(>= 3\.10\)"
     right = re.fullmatch(rf"Package: ithreads\nVersion: {re.escape(VERSION)}\nDepends: {needs}\n", about)
@@ -303,21 +305,21 @@ def check_package(checks, files):
 
 def check(checks):
     place = Place(checks, checks.folder / "prefix")
-    status, printed, said = tool("install", "--prefix", place.prefix)
-    if not checks.expect(f"it is installed: {status} {said}", status == 0 and not said):
+    status, _, errors = tool("install", "--prefix", place.prefix)
+    if not checks.expect(f"it is installed: {status} {errors}", status == 0 and not errors):
         return
     commands, files = check_files(checks, place), place.files()
     check_examples(checks, place)
-    check_stopped(checks, place)
+    check_stopped(checks)
     check_commands(checks, place, commands)
     check_work(checks, place)
     check_manual(checks, place, commands)
     check_bash(checks, place)
     check_zsh(checks, place)
     check_removal(checks, place)
-    status, _, said = tool("install", "--prefix", "/made/up", "--destdir", checks.folder / "root")
+    status, _, errors = tool("install", "--prefix", "/made/up", "--destdir", checks.folder / "root")
     below = Place(checks, checks.folder / "root/made/up")
-    checks.expect(f"below a --destdir: {status} {said}", status == 0 and below.files() == files)
+    checks.expect(f"below a --destdir: {status} {errors}", status == 0 and below.files() == files)
     page = (below.prefix / "share/man/man1/ithreads.1").read_text()
     checks.expect("the manual page names the prefix", "/made/up/lib/ithreads" in page)
     check_package(checks, files)

@@ -64,8 +64,8 @@ def check_pair(checks, number):
     draw = checks.random
     old = some_bytes(draw, draw.choice([0, 1, 10, 99, 1000, 4096, 20000, 100000]))
     files = [checks.file("old", old), checks.file("new", edited(draw, old)), checks.folder / "edits"]
-    status, text, said = tool("edits", *files[:2])
-    if not checks.expect(f"pair {number}: the tool gives a list {said}", status == 0):
+    status, text, errors = tool("edits", *files[:2])
+    if not checks.expect(f"pair {number}: the tool gives a list {errors}", status == 0):
         return
     files[2].write_bytes(text)
     fresh, later = program("run", GUEST, files[1]), program("run", GUEST, files[0], files[2])
@@ -86,7 +86,7 @@ def found(old, new):
 
 
 def check_found(checks):
-    """Many pairs, of which the module is asked."""
+    """Many pairs, by the module."""
     draw, wrong = checks.random, []
     for _ in range(MORE_PAIRS):
         old = some_bytes(draw, draw.choice([0, 1, 9, 10, 11, 99, 100, 101, 1000, 3000]))
@@ -129,8 +129,8 @@ def check_limits(checks):
     checks.expect("zeros are had by cutting", tool("edits", most, zeros)[1] == b"size 0\nsize 1048576\n")
     checks.expect("a list of the greatest length is given", len(tool("edits", empty, half)[1]) == 1_048_575)
     for name, words in (("a list", (empty, over)), ("an old file", (more, most)), ("a new file", (most, more))):
-        status, printed, said = tool("edits", *words)
-        checks.expect(f"{name} that is too long is refused: {said}", status == 1 and not printed and said)
+        status, printed, errors = tool("edits", *words)
+        checks.expect(f"{name} that is too long is refused: {errors}", status == 1 and not printed and errors)
 
 
 def shortest(old, most, letters):
@@ -208,19 +208,19 @@ def check_long_pair(checks, what, pair, count):
     old, new = pair
     files = [checks.file("old", old), checks.file("new", new)]
     one = tool("edits", *files)
-    status, names, said = tool("edits", *files, "--into", checks.folder / "several")
+    status, names, errors = tool("edits", *files, "--into", checks.folder / "several")
     lists = sorted(checks.folder.glob("several.*.edits"))
-    told = [str(name) for name in lists]
-    checks.expect(f"{what}: {count} lists are written, and their names printed: {status} {said}",
-                  status == 0 and len(lists) == count and names.decode().split("\n") == [*told, ""])
+    wanted = [str(name) for name in lists]
+    checks.expect(f"{what}: {count} lists are written, and their names printed: {status} {errors}",
+                  status == 0 and len(lists) == count and names.decode().split("\n") == [*wanted, ""])
     texts = [name.read_bytes() for name in lists]
     checks.expect(f"{what}: no list is too long", all(len(text) <= MOST_LIST for text in texts))
     done = old
     for text in texts:
         done = None if done is None else applied(done, text)
     checks.expect(f"{what}: the lists make the new file of the old", done == new)
-    status, made, said = tool("edits", "--apply", files[0], *lists)
-    checks.expect(f"{what}: so they do with --apply: {status} {said}", status == 0 and made == new)
+    status, made, errors = tool("edits", "--apply", files[0], *lists)
+    checks.expect(f"{what}: so they do with --apply: {status} {errors}", status == 0 and made == new)
     if count == 1:
         checks.expect(f"{what}: the list is that which is printed", one[0] == 0 and texts == [one[1]])
     else:
@@ -239,12 +239,12 @@ def check_into(checks):
     for what, *pair, count in long_pairs(checks.random):
         check_long_pair(checks, what, pair, count)
     old, new, other = checks.file("old", b"1"), checks.file("new", b"2"), checks.file("several.2.edits", b"")
-    status, printed, said = tool("edits", old, new, "--into", checks.folder / "several")
-    checks.expect(f"a list of another call in the way is told: {said}",
-                  status == 1 and not printed and said and not (checks.folder / "several.1.edits").exists())
+    status, printed, errors = tool("edits", old, new, "--into", checks.folder / "several")
+    checks.expect(f"a list of another call in the way is reported: {errors}",
+                  status == 1 and not printed and errors and not (checks.folder / "several.1.edits").exists())
     other.unlink()
-    status, printed, said = tool("edits", old, new, "--into", checks.folder / "no folder" / "several")
-    checks.expect(f"a name that can't be written is told: {said}", status == 2 and not printed and said)
+    status, printed, errors = tool("edits", old, new, "--into", checks.folder / "no folder" / "several")
+    checks.expect(f"a name that can't be written is reported: {errors}", status == 2 and not printed and errors)
 
 
 def check_apply(checks):
@@ -257,10 +257,10 @@ def check_apply(checks):
             ((old, lists[2]), 1, "far line 1: OutOfRange"), ((over, lists[0]), 1, "the most of an input"),
             ((old, over), 1, "the most of a list"), ((old, checks.folder / "none"), 2, "can't be read"),
             ((old,), 2, "usage"), ((old, lists[0], "--into", checks.folder / "several"), 2, "usage")):
-        status, made, said = tool("edits", "--apply", *words)
-        checks.expect(f"edits --apply {words}: {status} {said}", status == wanted and not made and begun in said)
-    status, made, said = tool("edits", old, old, old)
-    checks.expect(f"edits of three files: {status} {said}", status == 2 and not made and "usage" in said)
+        status, made, errors = tool("edits", "--apply", *words)
+        checks.expect(f"edits --apply {words}: {status} {errors}", status == wanted and not made and begun in errors)
+    status, made, errors = tool("edits", old, old, old)
+    checks.expect(f"edits of three files: {status} {errors}", status == 2 and not made and "usage" in errors)
 
 
 # tools/check-edits.
@@ -312,16 +312,18 @@ def odd_lists():
 def compare(checks, what, text, length):
     """Program and tool refuse a list at the same line with the same word, or see the same length after it."""
     old, name = checks.file("old", b"\1" * length), checks.file("list", text)
-    status, printed, said = program("run", GUEST, old, name)
-    other, told, why = tool("check-edits", name, length)
+    status, printed, errors = program("run", GUEST, old, name)
+    tool_status, tool_printed, tool_errors = tool("check-edits", name, length)
     if status == 5:
-        same = other == 1 and not told and why.startswith(f"tools/check-edits: {said.removeprefix('edits ')}: ")
+        begin = f"tools/check-edits: {errors.removeprefix('edits ')}: "
+        same = tool_status == 1 and not tool_printed and tool_errors.startswith(begin)
     elif status == 9:
-        same = other == 1 and not told and "more than" in why
+        same = tool_status == 1 and not tool_printed and "more than" in tool_errors
     else:
         ends = re.findall(rb"^end exit ([0-9]+)$", printed, flags=re.M)
-        same = status == 0 and other == 0 and told == ends[-1] + b"\n" and not why
-    checks.expect(f"{what}, {text[:60]}: the program, {status} {said}, and check-edits, {other} {told} {why}", same)
+        same = status == 0 and tool_status == 0 and tool_printed == ends[-1] + b"\n" and not tool_errors
+    checks.expect(f"{what}, {text[:60]}: the program, {status} {errors}, and check-edits, {tool_status} {tool_printed} "
+                  f"{tool_errors}", same)
 
 
 def check_check_edits(checks):
@@ -336,13 +338,13 @@ def check_check_edits(checks):
         compare(checks, f"list {number}", text, length)
     for text, wanted in ((b"set 0x10 00\n", "expected a decimal number (only the bytes are hexadecimal), found `0x10"),
                          (b"set 12.5 00\n", "expected one space"), (b"size 0x10\n", "expected a decimal number (")):
-        status, _, said = tool("check-edits", checks.file("list", text), "100")
-        checks.expect(f"check-edits says of {text}: {said}", status == 1 and wanted in said)
+        status, _, errors = tool("check-edits", checks.file("list", text), "100")
+        checks.expect(f"check-edits says of {text}: {errors}", status == 1 and wanted in errors)
     name = checks.file("list", b"")
     wrong = [(), (name,), (name, "1048577"), (name, "-1"), (name, "x"), (name, ""), (checks.folder / "none", "0")]
     for words in wrong:
-        status, printed, said = tool("check-edits", *words)
-        checks.expect(f"check-edits doesn't take {words}: {said}", status == 2 and not printed and said)
+        status, printed, errors = tool("check-edits", *words)
+        checks.expect(f"check-edits doesn't take {words}: {errors}", status == 2 and not printed and errors)
 
 
 def check(checks):

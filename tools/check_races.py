@@ -45,18 +45,18 @@ def check_sorted(checks, first, pairs):
     ran_whole(str(ROOT / "guest/build"), "--libc", "--symbols", f"-DFIRST={first}", str(source), str(elf))
     program("run", elf, EXAMPLES / "empty", "--workers", "1", "--memo", memo)
     listed = program("races", memo)[1].decode().splitlines()
-    status, printed, said = tool("races", memo)
-    told = printed.decode()
-    checks.expect(f"races, from {first}: {status} {said}\n{told}", status == 0 and told.startswith(listed[0] + "\n"))
-    found = sorted(" ".join(sorted(one.groups())) for one in STEPS.finditer(told))
+    status, printed, errors = tool("races", memo)
+    text = printed.decode()
+    checks.expect(f"races, from {first}: {status} {errors}\n{text}", status == 0 and text.startswith(listed[0] + "\n"))
+    found = sorted(" ".join(sorted(one.groups())) for one in STEPS.finditer(text))
     all_of_it = len(listed) - 1
     last = f"{all_of_it - len(pairs)} of {all_of_it} are the C library's, which --all prints\n"
-    checks.expect(f"races, from {first}: {found}", found == pairs and told.count("\nrace ") == len(pairs))
-    checks.expect(f"races, from {first}: the last line of\n{told}", told.endswith(last) and all_of_it > len(pairs))
-    told = tool("races", memo, "--symbols", elf, "--all")[1].decode()
-    lines = [line for line in told.splitlines() if line.startswith("race ")]
+    checks.expect(f"races, from {first}: {found}", found == pairs and text.count("\nrace ") == len(pairs))
+    checks.expect(f"races, from {first}: the last line of\n{text}", text.endswith(last) and all_of_it > len(pairs))
+    text = tool("races", memo, "--symbols", elf, "--all")[1].decode()
+    lines = [line for line in text.splitlines() if line.startswith("race ")]
     checks.expect(f"races --all, from {first}: {lines}", sorted(lines) == sorted(listed[1:]) and
-                  told.count("both store to sum\n", 0, 1000) >= len(pairs))
+                  text.count("both store to sum\n", 0, 1000) >= len(pairs))
 
 
 def check(checks):

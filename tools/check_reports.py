@@ -3,7 +3,7 @@
   - Reports are written here, with numbers and outputs that are drawn; some outputs look like reports, some are no text.
     `tools/report` says of each what it was made of, and with `--output` gives the very bytes.
   - Such a report is cut at each of its bytes: it is refused, and the byte that is named is where it was cut. In copies
-    another byte stands somewhere: refused, at no earlier line; or what is said of it spells the copy.
+    another byte stands somewhere: refused, at no earlier line; or what it is read as is the copy's text.
   - Of guests of examples/ the ends, counts and outputs are those of examples/README.md, README.md and of arithmetic.
   - `tools/run` gives each guest's output alone, and its exit code or the status of its --help. The reports go where it
     says, byte for byte those of `ithreads run`, and nothing that a guest puts out goes to standard error.
@@ -65,7 +65,7 @@ ENDS = [("perm.elf", [], {"kind": "exit", "code": 4294967295}),
 
 
 def some_end(draw):
-    """An end as the report has it, and as it is to be told."""
+    """An end as the report has it, and as tools/report has to print it."""
     code, thread, cause = draw.choice([0, 1, 255, 2**32 - 1]), draw.randrange(32), draw.randrange(9)
     pc = draw.randrange(2**32)
     return draw.choice([
@@ -76,47 +76,47 @@ def some_end(draw):
 
 
 def some_round(draw, number):
-    """A report, what is to be told of it, and the guest's output."""
+    """A report, what tools/report has to print of it, and the guest's output."""
     steps, workers = draw.choice([1, 2, 12, 300]), draw.randrange(1, 17)
     schedule = [[draw.randrange(32), draw.choice("=+") if number else "+"] for _ in range(steps)]
     reused = sum(mark == "=" for _, mark in schedule)
     shares = [0] * workers
     for _ in range(steps):
         shares[draw.randrange(workers)] += 1
-    said, end = some_end(draw)
+    line, end = some_end(draw)
     output = draw.choice([*TRICKY, draw.randbytes(5000)])
-    told = {"round": number, "end": end, "steps": steps, "reused": reused, "executed": steps - reused, "by": shares,
-            "instructions": draw.randrange(10**12), "schedule": schedule, "memory": draw.randbytes(32).hex()}
+    fields = {"round": number, "end": end, "steps": steps, "reused": reused, "executed": steps - reused, "by": shares,
+              "instructions": draw.randrange(10**12), "schedule": schedule, "memory": draw.randbytes(32).hex()}
     if draw.randrange(2):
-        told["reached"] = draw.choice([0, steps, 65_536])
+        fields["reached"] = draw.choice([0, steps, 65_536])
     if draw.randrange(2):
-        told["progress"] = [*sorted(draw.sample(range(steps), min(steps, draw.choice([0, 1, 5])))), steps]
-    return report_of(told, said, output), told, output
+        fields["progress"] = [*sorted(draw.sample(range(steps), min(steps, draw.choice([0, 1, 5])))), steps]
+    return report_of(fields, line, output), fields, output
 
 
-def report_of(told, end, output):
+def report_of(fields, end, output):
     """The bytes of a report: the lines of docs/FORMATS.md, the output, and a newline."""
-    entries = " ".join(f"{thread}{mark}" for thread, mark in told["schedule"])
+    entries = " ".join(f"{thread}{mark}" for thread, mark in fields["schedule"])
     words = ("steps", "reused", "executed", "reached", "instructions")
-    counts = "".join(f"{word} {told[word]}\n" for word in words if told.get(word) is not None)
-    progress = f"progress {' '.join(map(str, told['progress']))}\n" if told.get("progress") else ""
-    lines = (f"round {told['round']}\nend {end}\n{counts}by {' '.join(map(str, told['by']))}\n{progress}schedule {entries}\n"
-             f"memory {told['memory']}\noutput {len(output)}\n")
+    counts = "".join(f"{word} {fields[word]}\n" for word in words if fields.get(word) is not None)
+    progress = f"progress {' '.join(map(str, fields['progress']))}\n" if fields.get("progress") else ""
+    lines = (f"round {fields['round']}\nend {end}\n{counts}by {' '.join(map(str, fields['by']))}\n"
+             f"{progress}schedule {entries}\nmemory {fields['memory']}\noutput {len(output)}\n")
     return lines.encode() + output + b"\n"
 
 
-def said_again(told, output):
-    """A report of what the tool told."""
-    return report_of(told, " ".join(map(str, told["end"].values())), output)
+def report_again(fields, output):
+    """A report made of what the tool printed."""
+    return report_of(fields, " ".join(map(str, fields["end"].values())), output)
 
 
-def output_is(told, output):
-    """Whether the bytes are told: as text where Python's own reading takes them, else in hexadecimal."""
+def output_is(printed, output):
+    """Whether the tool prints the bytes: as text where Python's own reading takes them, else in hexadecimal."""
     try:
         wanted = {"length": len(output), "text": output.decode()}
     except UnicodeDecodeError:
         wanted = {"length": len(output), "hex": "".join(f"{byte:02x}" for byte in output)}
-    return told == wanted
+    return printed == wanted
 
 
 def check_drawn(checks, number):
@@ -124,20 +124,21 @@ def check_drawn(checks, number):
     first = draw.randrange(2)
     made = [some_round(draw, first + k) for k in range(draw.choice([1, 1, 2, 5]))]
     file = checks.file("reports", b"".join(report for report, _, _ in made))
-    status, printed, said = tool("report", file)
-    if not checks.expect(f"reports {number} are taken: {said}", status == 0 and not said):
+    status, printed, errors = tool("report", file)
+    if not checks.expect(f"reports {number} are taken: {errors}", status == 0 and not errors):
         return
     objects = json.loads(printed)
     right = len(objects) == len(made)
-    for one, (_, told, output) in zip(objects, made):
-        right = right and output_is(one.pop("output"), output) and one == told
+    for one, (_, fields, output) in zip(objects, made):
+        right = right and output_is(one.pop("output"), output) and one == fields
     checks.expect(f"reports {number}: the objects say what they were made of", right)
     at = draw.randrange(len(made))
-    status, printed, said = tool("report", file, "--output", str(first + at))
-    checks.expect(f"reports {number}: the output of round {first + at}: {said}", status == 0 and printed == made[at][2])
+    status, printed, errors = tool("report", file, "--output", str(first + at))
+    checks.expect(f"reports {number}: the output of round {first + at}: {errors}",
+                  status == 0 and printed == made[at][2])
 
 
-# Reports with damage. Here the tools' module is asked, since there are many.
+# Reports with damage, which the tools' module reads here, since there are many.
 
 
 def stop_of(data):
@@ -155,8 +156,8 @@ def check_cut(checks):
     wrong = [at for at in range(len(data) + 1) if stop_of(data[:at]) != (None if at in whole else at)]
     checks.expect(f"a file that is cut is refused where it was cut, but at {wrong}", not wrong)
     checks.expect("what stands behind the last report is refused there", stop_of(data + b"\n") == len(data))
-    status, printed, said = tool("report", checks.file("cut", data[:99]))
-    checks.expect(f"the tool names the byte: {said}", status == 1 and not printed and " at byte 99: " in said)
+    status, printed, errors = tool("report", checks.file("cut", data[:99]))
+    checks.expect(f"the tool names the byte: {errors}", status == 1 and not printed and " at byte 99: " in errors)
 
 
 def is_sound(one):
@@ -168,7 +169,7 @@ def is_sound(one):
 
 
 def check_changed(checks):
-    """Copies with another byte: those that are taken spell what they say, others aren't refused before that line."""
+    """Copies with another byte: those that are taken are read as they are, others aren't refused before that line."""
     draw, taken, wrong = checks.random, 0, []
     for _ in range(CHANGED):
         report, _, output = some_round(draw, 1)
@@ -178,7 +179,7 @@ def check_changed(checks):
         if stop is None:
             one = next(reports.rounds(data))
             taken += 1
-            right = is_sound(one) and said_again({**vars(one), "round": one.number}, one.output) == data
+            right = is_sound(one) and report_again({**vars(one), "round": one.number}, one.output) == data
         else:
             right = report.rfind(b"\n", 0, at) + 1 <= stop <= len(data)
         if not right:
@@ -203,8 +204,8 @@ def check_words(checks):
     file = checks.file("reports", some_round(checks.random, 0)[0])
     for words, wanted in (((), 2), ((checks.folder / "none",), 2), ((file, "--output", "x"), 2),
                           ((file, "--output", "1"), 1), ((file, "--output", "-1"), 1), ((ROOT / "README.md",), 1)):
-        status, printed, said = tool("report", *words)
-        checks.expect(f"report {words}: {status} {said}", status == wanted and not printed and said)
+        status, printed, errors = tool("report", *words)
+        checks.expect(f"report {words}: {status} {errors}", status == wanted and not printed and errors)
 
 
 # Guests.
@@ -220,7 +221,7 @@ def guest(checks, name, text, code):
     return checks.file(name, bytes(elf))
 
 
-def told_by_program(checks, *words):
+def rounds_of_run(checks, *words):
     """The status of a run, what it printed, and what tools/report says of that."""
     status, printed, _ = program("run", *words)
     file = checks.file("reports", printed)
@@ -229,14 +230,14 @@ def told_by_program(checks, *words):
 
 def check_guests(checks):
     pair = [EXAMPLES / f"pair.{word}" for word in ("elf", "in", "edits")]
-    _, file, made = told_by_program(checks, *pair, "--workers", "1")
+    _, file, made = rounds_of_run(checks, *pair, "--workers", "1")
     counts = [[one[word] for word in ("round", "steps", "reused", "executed", "instructions", "by")] for one in made]
     checks.expect("pair.elf: its counts", counts == [[0, 12, 0, 12, 51, [12]], [1, 12, 8, 4, 18, [12]]])
     for number, total in enumerate((12, 13)):
         output = tool("report", file, "--output", number)[1]
         checks.expect(f"pair.elf: its output {number}", output == bytes([total, 0, 0, 0]))
     for name, options, end in ENDS:
-        status, _, made = told_by_program(checks, EXAMPLES / name, EXAMPLES / "empty", *options)
+        status, _, made = rounds_of_run(checks, EXAMPLES / name, EXAMPLES / "empty", *options)
         kind = [status, *(one["end"] for one in made)]
         checks.expect(f"{name}: its end, {kind}", kind == [0 if end["kind"] == "exit" else 1, end])
 
@@ -263,7 +264,7 @@ def check_run(checks, what, words, status, output, why=""):
     rest = got[2][len(lines_of(printed)):]
     right = right and rest.startswith(f"tools/run: {why}" if why else "") and bool(rest) == bool(why)
     checks.expect(f"run {what}: {got[0]}, {rest}", right)
-    file = checks.folder / "kept"
+    file = checks.folder / "whole"
     whole = run(*words, "--report", file)
     checks.expect(f"run {what} --report: {whole[0]}, {whole[2]}",
                   whole == (status, output, rest) and file.read_bytes() == printed)
@@ -285,7 +286,7 @@ def check_ends(checks):
     check_run(checks, "an unknown call", (checks.file("unknown.elf", unknown), empty), 211, b"",
               "round 0 ended by trap 0 00010010 8")
     check_run(checks, "a deadlock", (cross, empty), 212, b"", "round 0 ended by deadlock")
-    check_run(checks, "fuel", (hi, "--fuel", "4", empty), 213, b"", "round 0 ended by spent: thread 0 went on")
+    check_run(checks, "fuel", (hi, "--fuel", "4", empty), 213, b"", "round 0 ended by spent: thread 0 ran without")
     check_run(checks, "steps", (hi, empty, "--steps=1"), 213, b"hi\n", "round 0 ended by spent: it had 1 steps")
     five = checks.file("five", b"set 0 00\n")
     check_run(checks, "a length as code", (EXAMPLES / "length.elf", EXAMPLES / "pair.in", five), 4100 % 256, b"")
@@ -294,7 +295,7 @@ def check_ends(checks):
 def check_workers(checks):
     """Several workers: as many numbers behind `by`, and the output of one worker, where it is the guest's alone."""
     pair = [EXAMPLES / f"pair.{word}" for word in ("elf", "in", "edits")]
-    file = checks.folder / "kept"
+    file = checks.folder / "whole"
     for words, count in (([], 4), (["--workers", "2"], 2), (["--workers=16"], 16)):
         got = run(*pair, *words, "--report", file)
         shares = [one.by for one in reports.rounds(file.read_bytes())]

@@ -9,7 +9,7 @@
   - What it says of pair.elf is what ./trace, `show` and `why` say. Its table is that of README.
   - A file of reports, a listing, a trace or the lines of `why` that is cut at any byte is refused, and a line says
     where.
-  - A memo with a false record: with --audit its step is marked, and what differs is said.
+  - A memo with a false record: with --audit its step is marked, with what differs.
   - Where there is Chromium, it draws the picture as large as that says it is.
 """
 import contextlib
@@ -63,7 +63,7 @@ def rounds_of(printed):
 
 
 def boxes_of(one):
-    """The boxes of a round, by place: how many steps, how many of them executed, what is said, and left and right."""
+    """The boxes of a round, by place: how many steps, how many of them executed, the title, and left and right."""
     boxes = []
     for group in one.findall(f"{NAMESPACE}g"):
         title, rect = group.find(f"{NAMESPACE}title").text, group.find(f"{NAMESPACE}rect")
@@ -76,7 +76,7 @@ def boxes_of(one):
 
 
 def titles(one, kind):
-    """What is said of the lines of a kind."""
+    """The titles of the lines of a kind."""
     return [it.find(f"{NAMESPACE}title").text for it in one.findall(f"{NAMESPACE}path") if it.get("class") == kind]
 
 
@@ -86,9 +86,9 @@ def has_steps(one, report):
     for (place, counts, title, left, right, kinds), (at, (thread, mark)) in zip(boxes, enumerate(report.schedule)):
         number, word = made.get(thread, 0), "reused" if mark == "=" else "executed"
         made[thread] = number + 1
-        said = f"step {at}: thread {thread}, number {number}, {word}"
+        wanted = f"step {at}: thread {thread}, number {number}, {word}"
         right_box = (place, counts, kinds) == (at, (1, mark == "+"), [word]) and left < right
-        if not right_box or title.split("\n")[0] != said:
+        if not right_box or title.split("\n")[0] != wanted:
             return False
     ordered = all(box[4] <= other[3] + 0.11 for box, other in zip(boxes, boxes[1:]))  # they are rounded to tenths
     return len(boxes) == report.steps and ordered
@@ -118,11 +118,11 @@ def width_of(printed):
 def check_drawn(checks, number):
     made = [check_reports.some_round(checks.random, k)[0] for k in range(checks.random.choice([1, 2, 5]))]
     data = b"".join(made)
-    status, printed, said = tool("timeline", checks.file("reports", data))
-    if checks.expect(f"timeline of reports {number}: {status} {said}", status == 0 and not said):
-        told = list(zip(rounds_of(printed), reports.rounds(data)))
+    status, printed, errors = tool("timeline", checks.file("reports", data))
+    if checks.expect(f"timeline of reports {number}: {status} {errors}", status == 0 and not errors):
+        pairs = list(zip(rounds_of(printed), reports.rounds(data)))
         checks.expect(f"timeline of reports {number}: a box for each step, or all steps in boxes",
-                      len(told) == len(made) and all(has_round(*pair) for pair in told))
+                      len(pairs) == len(made) and all(has_round(*pair) for pair in pairs))
 
 
 def long_round(draw, number, kind):
@@ -132,22 +132,22 @@ def long_round(draw, number, kind):
              for at in range(65_536)]
     schedule = [[thread, mark if number else "+"] for thread, mark in zip(threads, marks)]
     executed = sum(mark == "+" for _, mark in schedule)
-    told = {"round": number, "steps": 65_536, "reused": 65_536 - executed, "executed": executed, "instructions": 10**9,
-            "by": [65_536], "schedule": schedule, "memory": "0" * 64}
-    return check_reports.report_of(told, "exit 0", b"")
+    fields = {"round": number, "steps": 65_536, "reused": 65_536 - executed, "executed": executed, "by": [65_536],
+              "instructions": 10**9, "schedule": schedule, "memory": "0" * 64}
+    return check_reports.report_of(fields, "exit 0", b"")
 
 
 def check_long(checks, kind):
     data = b"".join(long_round(checks.random, number, kind) for number in (0, 1))
     began = time.monotonic()
-    status, printed, said = tool("timeline", checks.file("reports", data))
+    status, printed, errors = tool("timeline", checks.file("reports", data))
     seconds = time.monotonic() - began
-    if not checks.expect(f"timeline of 65,536 steps, {kind}: {status} {said}", status == 0):
+    if not checks.expect(f"timeline of 65,536 steps, {kind}: {status} {errors}", status == 0):
         return
-    told = list(zip(rounds_of(printed), reports.rounds(data)))
-    count = sum(len(boxes_of(one)) for one, _ in told)
+    pairs = list(zip(rounds_of(printed), reports.rounds(data)))
+    count = sum(len(boxes_of(one)) for one, _ in pairs)
     checks.expect(f"timeline of 65,536 steps, {kind}: all steps are in {count} boxes of {len(printed)} bytes",
-                  all(has_all(*pair) for pair in told) and count <= 8000 and len(printed) < 4_000_000
+                  all(has_all(*pair) for pair in pairs) and count <= 8000 and len(printed) < 4_000_000
                   and width_of(printed) <= MOST_WIDE)
     checks.expect(f"timeline of 65,536 steps, {kind}: it takes {seconds:.0f} s", seconds < LONG_SECONDS)
 
@@ -155,11 +155,11 @@ def check_long(checks, kind):
 def check_page(checks):
     """The page of HTML has each step's thread and mark, and a browser draws it."""
     data = b"".join(long_round(checks.random, number, "drawn") for number in (0, 1))
-    status, printed, said = tool("timeline", checks.file("reports", data), "--html")
-    if not checks.expect(f"timeline --html: {status} {said}", status == 0 and len(printed) < 4_000_000):
+    status, printed, errors = tool("timeline", checks.file("reports", data), "--html")
+    if not checks.expect(f"timeline --html: {status} {errors}", status == 0 and len(printed) < 4_000_000):
         return
-    told = json.loads(re.search(r'type="application/json">(.*?)</script>', printed.decode(), flags=re.S).group(1))
-    right = [([list(pair) for pair in zip(one["threads"], one["marks"])], one["lines"]) for one in told["rounds"]]
+    shown = json.loads(re.search(r'type="application/json">(.*?)</script>', printed.decode(), flags=re.S).group(1))
+    right = [([list(pair) for pair in zip(one["threads"], one["marks"])], one["lines"]) for one in shown["rounds"]]
     checks.expect("timeline --html: all steps are in it", right == [(one.schedule, []) for one in reports.rounds(data)])
     browser = browser_here("the page of HTML")
     if browser:
@@ -183,15 +183,15 @@ def with_all(checks, words, workers, *more):
 
 
 def check_guest(checks, words, workers):
-    made, (status, printed, said) = with_all(checks, words, workers)
+    made, (status, printed, errors) = with_all(checks, words, workers)
     what = f"timeline of {words[0].name} with {workers} workers"
-    if checks.expect(f"{what}: {status} {said}", status == 0):
+    if checks.expect(f"{what}: {status} {errors}", status == 0):
         drawn = rounds_of(printed)
         checks.expect(f"{what}: a box for each step", all(map(has_round, drawn, made)) and len(drawn) == len(made))
         waits = [len(titles(one, "waits")) + len(titles(one, "forever")) for one in drawn]
         traced = [trace_of(checks, words, one).count(b" waits for ") for one in made[:1]]
         if made[0].end["kind"] == "deadlock":
-            traced[0] //= 2  # those that wait at the end are told once more
+            traced[0] //= 2  # those that wait at the end are listed once more
         checks.expect(f"{what}: {waits} lines of who waits, and {traced} such steps of round 0", waits[:1] == traced)
 
 
@@ -201,9 +201,9 @@ def trace_of(checks, words, report):
 
 
 def check_pair(checks):
-    """All that is said of the two rounds of pair.elf, by one worker, with the reasons."""
-    made, (status, printed, said) = with_all(checks, PAIR, "1", "--why", checks.file("why", WHY.encode()))
-    if not checks.expect(f"timeline of pair.elf with reasons: {status} {said}", status == 0):
+    """All that is drawn of the two rounds of pair.elf, by one worker, with the reasons."""
+    _, (status, printed, errors) = with_all(checks, PAIR, "1", "--why", checks.file("why", WHY.encode()))
+    if not checks.expect(f"timeline of pair.elf with reasons: {status} {errors}", status == 0):
         return
     for number, one in enumerate(rounds_of(printed)):
         wakes = {tuple(map(int, re.match(r"step ([0-9]+), .* (?:wakes|begins) thread ([0-9]+)$", it).groups()))
@@ -216,8 +216,8 @@ def check_pair(checks):
         order = all(widths[i] < widths[j] for i in range(12) for j in range(12) if counts[i] < counts[j])
         checks.expect(f"round {number}: the more instructions, the wider", order)
     later = rounds_of(printed)[1]
-    said = [title for _, _, title, *_ in boxes_of(later)]
-    checks.expect(f"step 3 of round 1: {said[3]}", said[3].split("\n") == [
+    shown = [title for _, _, title, *_ in boxes_of(later)]
+    checks.expect(f"step 3 of round 1: {shown[3]}", shown[3].split("\n") == [
         "step 3: thread 2, number 0, executed", "lock(0) waits for mutex 0, held by thread 1", "4 instructions",
         "reads 00010000, c0002000; writes nothing", "executed, since: page c0002000 at 0 now 8 was 7 by start"])
     causes = [re.search(r"step ([0-9]+) is executed for what step ([0-9]+) did", it).groups()
@@ -229,13 +229,13 @@ def check_pair(checks):
 
 
 def check_rerun(checks):
-    """A rerun, with the memo that it went on from: what is reused has that memo's pages, and what is executed none."""
+    """A rerun, with the memo that it continues: what is reused has that memo's pages, and what is executed none."""
     memo = checks.folder / "before"
     program("run", *PAIR[:2], "--workers", "1", "--memo", memo)
     _, printed, _ = program("rerun", memo, PAIR[2], "--workers", "1")
     file = checks.file("reports", printed)
-    status, printed, said = tool("timeline", file, "--memo", f"0:{memo}", "--guest", *PAIR)
-    if checks.expect(f"timeline of a rerun: {status} {said}", status == 0):
+    status, printed, errors = tool("timeline", file, "--memo", f"0:{memo}", "--guest", *PAIR)
+    if checks.expect(f"timeline of a rerun: {status} {errors}", status == 0):
         made, drawn = next(reports.rounds(file.read_bytes())), rounds_of(printed)
         checks.expect("timeline of a rerun: a box for each step", len(drawn) == 1 and has_steps(drawn[0], made))
         have = [("reads 00010000" in title, kinds == ["reused"]) for _, _, title, _, _, kinds in boxes_of(drawn[0])]
@@ -256,7 +256,7 @@ def begins(data):
 
 
 def check_false(checks):
-    """A memo with a false record: its step is marked, and what differs is said; an honest one has no mark."""
+    """A memo with a false record: its step is marked, with what differs; an honest one has no mark."""
     memo, false = checks.folder / "honest", checks.folder / "false"
     _, printed, _ = program("run", *PAIR[:2], "--workers", "1", "--memo", memo)
     file, data = checks.file("reports", printed), bytearray(memo.read_bytes()[:-32])
@@ -264,11 +264,11 @@ def check_false(checks):
     false.write_bytes(data + hashlib.sha256(data).digest())
     _, drawn, _ = tool("timeline", file, "--memo", memo, "--audit")
     checks.expect("timeline of an honest memo marks a step", b'class="false"' not in drawn)
-    status, drawn, said = tool("timeline", file, "--memo", false, "--audit")
-    right = (status, said) == (0, "") and drawn.count(b'class="false"') == 2 and b"is false" in drawn
-    checks.expect(f"timeline of a false memo: {status} {said}", right)
-    _, told, _ = tool("timeline", file, "--memo", false, "--audit", "--text")
-    rows = [line for line in told.decode().split("\n") if "is false" in line]
+    status, drawn, errors = tool("timeline", file, "--memo", false, "--audit")
+    right = (status, errors) == (0, "") and drawn.count(b'class="false"') == 2 and b"is false" in drawn
+    checks.expect(f"timeline of a false memo: {status} {errors}", right)
+    _, table, _ = tool("timeline", file, "--memo", false, "--audit", "--text")
+    rows = [line for line in table.decode().split("\n") if "is false" in line]
     checks.expect(f"table of a false memo: {rows}", len(rows) == 1 and rows[0].startswith("  3"))
 
 
@@ -276,13 +276,13 @@ def check_functions(checks):
     """A run of more steps than are drawn one by one, of which two functions have half each: who they are is known of a
     guest with symbols, and drawn, and so is that a rerun without an edit reuses them."""
     source, elf, memo = checks.file("turns.c", C_FILE), checks.folder / "turns.elf", checks.folder / "memo"
-    status, _, said = ran(str(ROOT / "guest/build"), "--symbols", str(source), str(elf))
-    if not checks.expect(f"turns.c is built: {status} {said}", status == 0):
+    status, _, errors = ran(str(ROOT / "guest/build"), "--symbols", str(source), str(elf))
+    if not checks.expect(f"turns.c is built: {status} {errors}", status == 0):
         return
     words = [elf, EXAMPLES / "empty", checks.file("none.edits", b"")]
     _, printed, _ = program("run", *words, "--workers", "1", "--memo", memo)
-    status, drawn, said = tool("timeline", checks.file("reports", printed), "--memo", memo, "--symbols", elf)
-    if checks.expect(f"timeline by functions: {status} {said}", status == 0):
+    status, drawn, errors = tool("timeline", checks.file("reports", printed), "--memo", memo, "--symbols", elf)
+    if checks.expect(f"timeline by functions: {status} {errors}", status == 0):
         for one, kind in zip(rounds_of(drawn), ("0 reused, {} executed", "{} reused, 0 executed")):
             titles = [title for _, _, title, *_ in boxes_of(one)]
             names = [text.text for text in one.iter(f"{NAMESPACE}text") if text.get("class") == "call"]
@@ -291,23 +291,23 @@ def check_functions(checks):
             checks.expect(f"timeline by functions: the boxes are {titles}, and have the names {names}",
                           right and names == list(STEPS) and len(titles) == len(STEPS))
     for more, wanted in ((("--symbols", elf), "usage"), (("--memo", memo, "--symbols", PAIR[0]), "no symbol table")):
-        status, _, said = ran_whole(str(ROOT / "tools/timeline"), str(checks.folder / "reports"), *map(str, more))
-        checks.expect(f"timeline {more}: {status} {said}", status == 2 and wanted in said)
+        status, _, errors = ran_whole(str(ROOT / "tools/timeline"), str(checks.folder / "reports"), *map(str, more))
+        checks.expect(f"timeline {more}: {status} {errors}", status == 2 and wanted in errors)
 
 
 def check_limits(checks):
     """A run with other limits than there are by itself."""
-    status, printed, said = with_all(checks, PAIR, "1", "--text", "--steps", "12", "--fuel", "7")[1]
-    checks.expect(f"timeline of a run with its limits: {status} {said}", status == 0 and printed)
+    status, printed, errors = with_all(checks, PAIR, "1", "--text", "--steps", "12", "--fuel", "7")[1]
+    checks.expect(f"timeline of a run with its limits: {status} {errors}", status == 0 and printed)
 
 
 def check_table(checks):
-    """The table is README's, but for its first line, and for what is said behind arrows."""
-    _, (status, printed, said) = with_all(checks, PAIR, "1", "--text")
+    """The table is README's, but for its first line, and for the words behind arrows."""
+    _, (status, printed, errors) = with_all(checks, PAIR, "1", "--text")
     table = re.search(r"^step +thread 0 .*?^```$", (ROOT / "README.md").read_text(), flags=re.S | re.M)
     wanted = [re.sub(r" *<-.*", "", line).rstrip() for line in table.group().split("\n")[:-1]] if table else []
-    told = printed.decode().split("\n")[1:-1]
-    checks.expect(f"README has the table: {status} {said} {told}", status == 0 and told == wanted)
+    lines = printed.decode().split("\n")[1:-1]
+    checks.expect(f"README has the table: {status} {errors} {lines}", status == 0 and lines == wanted)
     _, (_, printed, _) = with_all(checks, PAIR, "1", "--text", "--columns", "60")
     heads = [line for line in printed.decode().split("\n") if line.startswith("        round ")]
     checks.expect(f"rounds beneath each other in 60 columns: {heads}", len(heads) == 2)
@@ -353,12 +353,12 @@ def taken(adding, text):
 
 def ends_where(file, at):
     """Whether the reading of a file of reports, as the tool does it, ends with 1 and one line, which says this byte."""
-    said = io.StringIO()
+    errors = io.StringIO()
     try:
-        with contextlib.redirect_stderr(said):
+        with contextlib.redirect_stderr(errors):
             command.Command("timeline").rounds(str(file))
     except SystemExit as ended:
-        line = said.getvalue()
+        line = errors.getvalue()
         return ended.code == 1 and line.count("\n") == 1 and line.endswith("\n") and f" at byte {at}: " in line
     return False
 
@@ -377,9 +377,9 @@ def check_cut(checks):
     whole = len(made[0].lines) + len(made[0].output) + 1  # the first report, which is one by itself
     checks.expect(f"reports that are cut are refused in a line that says where, but at {taken_at}", taken_at == [whole])
     for at in (0, 1, 50, 99, len(printed) // 2, len(printed) - 1):
-        status, told, said = tool("timeline", checks.file("cut", printed[:at]))
-        checks.expect(f"timeline of reports cut at {at}: {status} {said}",
-                      status == 1 and not told and f" at byte {at}: " in said)
+        status, drawn, errors = tool("timeline", checks.file("cut", printed[:at]))
+        checks.expect(f"timeline of reports cut at {at}: {status} {errors}",
+                      status == 1 and not drawn and f" at byte {at}: " in errors)
 
 
 def check_words(checks):
@@ -398,15 +398,15 @@ def check_words(checks):
             ((file, "--guest", *PAIR, "--steps", "11"), 2, "the run has ended before it (of a run with --fuel or --steps, give"),
             ((file, "--guest", *PAIR, "--fuel", "0"), 2, "trace ended with status 2: words: "),
             ((file, "--guest", PAIR[1], *PAIR[1:]), 2, "trace ended with status 3")):
-        status, told, said = tool("timeline", *words)
-        checks.expect(f"timeline {words}: {status} {said}", status == wanted and not told and begun in said)
+        status, drawn, errors = tool("timeline", *words)
+        checks.expect(f"timeline {words}: {status} {errors}", status == wanted and not drawn and begun in errors)
     noted = checks.file("noted", WHY.replace("was 7 by start\n", "was 7 by start\n    it is <odd> & \"so\"\n").encode())
-    status, told, said = tool("timeline", file, "--why", noted)
-    titles = [title for _, _, title, *_ in boxes_of(rounds_of(told)[1])] if status == 0 else ["", "", "", ""]
-    checks.expect(f"timeline with notes: {said} {titles[3]}", titles[3].endswith('by start\nit is <odd> & "so"'))
-    status, told, said = tool("timeline", file, "--memo", memo, "--why", why)
-    right = status == 0 and b"5 instructions\nreads 00010000" in told
-    checks.expect(f"timeline without a trace: {status} {said}", right)
+    status, drawn, errors = tool("timeline", file, "--why", noted)
+    titles = [title for _, _, title, *_ in boxes_of(rounds_of(drawn)[1])] if status == 0 else ["", "", "", ""]
+    checks.expect(f"timeline with notes: {errors} {titles[3]}", titles[3].endswith('by start\nit is <odd> & "so"'))
+    status, drawn, errors = tool("timeline", file, "--memo", memo, "--why", why)
+    right = status == 0 and b"5 instructions\nreads 00010000" in drawn
+    checks.expect(f"timeline without a trace: {status} {errors}", right)
 
 
 def check(checks):

@@ -1,7 +1,7 @@
 """Checks `tools/schedule` and `tools/verify`.
 
   - Rounds of guests of examples/ and reruns of their memos, by one worker and by four, are the same as their replays.
-  - Of two rounds one is falsified in each thing that a replay can tell: that one differs, in what was falsified, and
+  - Of two rounds one is falsified in each thing that a replay can detect: that one differs, in what was falsified, and
     the other one is the same. So does a round on another input, or with another fuel.
   - `tools/schedule` gives each round's schedule, which `replay` and no other round takes for the same.
   - Wrong words, files and numbers of lists have status 2, a line that says so, and no verdict.
@@ -65,10 +65,10 @@ def all_the_same(first, count):
     return 0, [*(f"round {number}: the same" for number in range(first, first + count)), f"0 of {count} rounds differ"]
 
 
-def check_made(checks, what, words, printed, wanted):
+def check_made(checks, what, words, report, wanted):
     """The reports are as their replays."""
-    status, told, said = tool("verify", *words, checks.file("reports", printed))
-    checks.expect(f"{what}: {status} {told} {said}", verdict(status, told) == wanted)
+    status, printed, errors = tool("verify", *words, checks.file("reports", report))
+    checks.expect(f"{what}: {status} {printed} {errors}", verdict(status, printed) == wanted)
 
 
 def check_run(checks, run, workers):
@@ -104,11 +104,11 @@ def check_false(checks):
     cases = [(number, new, falsified(report, number, old, new), wanted) for number, old, new, wanted in FALSE]
     cases += [(number, b"a digit of the digest", another_digest(report, number), "memory is ") for number in (0, 1)]
     for number, what, data, wanted in cases:
-        status, told, said = tool("verify", *words, checks.file("reports", data))
-        lines = verdict(status, told)[1]
+        status, printed, errors = tool("verify", *words, checks.file("reports", data))
+        lines = verdict(status, printed)[1]
         right = (status == 1 and len(lines) == 3 and lines[number].startswith(f"round {number}: {wanted}")
                  and lines[1 - number] == f"round {1 - number}: the same" and lines[2] == "1 of 2 rounds differ")
-        checks.expect(f"round {number} with {what}: {status} {lines} {said}", right)
+        checks.expect(f"round {number} with {what}: {status} {lines} {errors}", right)
     checks.expect("each false report is another", all(data != report for _, _, data, _ in cases))
 
 
@@ -123,11 +123,11 @@ def check_other_words(checks):
             ("less fuel", [*pair, "--fuel", "6"], ["schedule: entry 5", "schedule: entry 5"]),
             ("fewer steps", [*pair, "--steps", "12"], ["the same", "the same"]),
             ("too few steps", [*pair, "--steps", "11"], ["schedule: entry 11", "schedule: entry 11"])):
-        status, told, said = tool("verify", *words, report)
-        lines = verdict(status, told)[1]
+        status, printed, errors = tool("verify", *words, report)
+        lines = verdict(status, printed)[1]
         begin = [line.startswith(f"round {k}: {begun}") for k, (line, begun) in enumerate(zip(lines, wanted))]
         right = status == int(wanted[1] != "the same") and len(lines) == 3 and all(begin)
-        checks.expect(f"{what}: {status} {lines} {said}", right)
+        checks.expect(f"{what}: {status} {lines} {errors}", right)
 
 
 def check_refused(checks):
@@ -147,8 +147,9 @@ def check_refused(checks):
             ("no executable", [pair[1], *pair[1:], report], "round 0 can't be replayed: status 3: image: "),
             ("a fuel that is none", [*pair, report, "--fuel", "x"], "usage"),
             ("a fuel that is too large", [*pair, report, "--fuel", "16777217"], "round 0 can't be replayed: status 2")):
-        status, told, said = tool("verify", *words)
-        checks.expect(f"verify with {what}: {status} {told} {said}", status == 2 and not told and begun in said)
+        status, printed, errors = tool("verify", *words)
+        checks.expect(f"verify with {what}: {status} {printed} {errors}",
+                      status == 2 and not printed and begun in errors)
 
 
 def check_schedule(checks):
@@ -161,14 +162,14 @@ def check_schedule(checks):
         for number, line in enumerate(lines):
             got = tool("schedule", report, number)
             checks.expect(f"the schedule of round {number} with {workers} workers: {got}", got == (0, line, ""))
-            status, _, said = program("replay", *pair[:2], checks.file("sched", line))
-            checks.expect(f"it is replayed: {status} {said}", status == 0)
+            status, _, errors = program("replay", *pair[:2], checks.file("sched", line))
+            checks.expect(f"it is replayed: {status} {errors}", status == 0)
     piped = ran_whole("bash", "-c", f"{ROOT}/tools/schedule - 1 <{report}")
     checks.expect(f"the schedule of standard input: {piped}", piped == (0, lines[1], ""))
     for words, wanted in (((report,), 2), ((report, "2"), 1), ((report, "x"), 2), ((checks.folder / "none", "0"), 2),
                           ((ROOT / "README.md", "0"), 1)):
-        status, told, said = tool("schedule", *words)
-        checks.expect(f"schedule {words}: {status} {said}", status == wanted and not told and said)
+        status, printed, errors = tool("schedule", *words)
+        checks.expect(f"schedule {words}: {status} {errors}", status == wanted and not printed and errors)
 
 
 def check_building(checks):
@@ -176,7 +177,7 @@ def check_building(checks):
     with contextlib.redirect_stderr(io.StringIO()) as passed_on:
         done = running.ran("sh", "-c", script)
     right = done == running.Ran(3, b"printed\n", ["trace of one"])
-    checks.expect(f"what is said while a program is built goes on: {done} {passed_on.getvalue()}",
+    checks.expect(f"the lines of a build are passed on: {done} {passed_on.getvalue()}",
                   right and passed_on.getvalue() == "trace: proved one (1 of 2)\n")
 
 

@@ -7,7 +7,7 @@ behind that guest here.
     so in time.
   - An executable that is cut, has no symbols, or other code, is refused with a line.
   - Where there is clang with lld and llvm-symbolizer, lines of a C file are named.
-  - With a C library, the guest's own lines are told, and the one that allocated a block.
+  - With a C library, the guest's own lines are named, and the one that allocated a block.
   - What docs/GUESTS.md shows of three edits is what the program prints for the committed executable. The names in it
     are compared by tools/check_documents.py.
 """
@@ -63,7 +63,7 @@ step 5 thread 2 number 1 page d001f000 at 4092 now 8 was 7 by start
 step 7 thread 2 number 2 page d001f000 at 4092 now 8 was 7 by 5
 step 9 thread 0 number 3 page d001f000 at 4092 now 13 was 12 by 5
 """
-SHARED_TOLD = "1. 3 steps, 13 instructions: threads share data on the stack of thread 1: worker stores there, and "
+SHARED_TEXT = "1. 3 steps, 13 instructions: threads share data on the stack of thread 1: worker stores there, and "
 MANY, SECONDS = 22_000, 8  # steps, and how much of a processor's time they may take; two seconds is what they take
 ROW = re.compile(r" *([0-9,]+) +([0-9,]+)  (?:[0-9a-f]{8}(?: [+][0-9]+)?|-|) .*")
 LIBRARY_FILE = b"""#include <pthread.h>
@@ -99,7 +99,7 @@ int main(void)
 FAKE = """#!/bin/sh
 echo "$*" >"$(dirname "$0")/words"
 cat "$(dirname "$0")/lines"
-[ -s "$(dirname "$0")/said" ] && cat "$(dirname "$0")/said" >&2
+[ -s "$(dirname "$0")/errors" ] && cat "$(dirname "$0")/errors" >&2
 exit "$(cat "$(dirname "$0")/status")"
 """
 C_FILE = b"""#include "ithreads.h"
@@ -165,9 +165,9 @@ class Place:
         (self.folder / "ithreads").write_text(FAKE)
         (self.folder / "ithreads").chmod(0o755)
 
-    def ran(self, lines, status, said, *words):
-        """What the tool does where the program prints these lines, ends with this status, and says this."""
-        for name, text in (("lines", lines), ("status", str(status)), ("said", said)):
+    def ran(self, lines, status, errors, *words):
+        """What the tool does if the program prints these lines, ends with this status, and prints these errors."""
+        for name, text in (("lines", lines), ("status", str(status)), ("errors", errors)):
             (self.folder / name).write_text(text)
         return ran_whole(str(self.folder / "tools/why"), *map(str, words))
 
@@ -180,15 +180,15 @@ def check_lines(checks, place, memo, guest):
     for lines in (WHY, "why 0\n"):
         got = place.ran(lines, 0, "", memo, "e")
         checks.expect(f"why without symbols: {got}", got == (0, lines.encode(), ""))
-        checks.expect(f"what the program is asked: {place.words()}", place.words() == f"why -- {memo} e\n")
+        checks.expect(f"the words of the program: {place.words()}", place.words() == f"why -- {memo} e\n")
     got = place.ran(WHY, 0, "", memo, "e", "--symbols", guest)
     checks.expect(f"why with symbols: {got[0]}, {got[2]}, {got[1].decode()}", got == (0, EXPLAINED.encode(), ""))
     got = place.ran("why 0\n", 0, "", memo, "e", "--symbols", guest)
     checks.expect(f"why with symbols and no step: {got}", got == (0, b"why 0\n", ""))
-    for status, said in ((4, "memo: Digest\n"), (5, "edits e line 1: BadLine\n"), (6, "read e\n"), (125, "no rt\n")):
+    for status, errors in ((4, "memo: Digest\n"), (5, "edits e line 1: BadLine\n"), (6, "read e\n"), (125, "no rt\n")):
         for more in ([], ["--symbols", guest]):
-            got = place.ran("", status, said, memo, "e", *more)
-            checks.expect(f"why where the program refuses: {got}", got == (status, b"", said))
+            got = place.ran("", status, errors, memo, "e", *more)
+            checks.expect(f"why where the program refuses: {got}", got == (status, b"", errors))
 
 
 def rows_of(printed):
@@ -203,27 +203,28 @@ def processor_seconds():
 
 
 def check_summary(checks, place, memo, guest):
-    """The summary: of a few lines, and of so many that it is printed unasked."""
-    status, printed, said = place.ran(WHY, 0, "", memo, "e", "--symbols", guest, "--summary")
+    """The summary: of a few lines, and of so many steps that it is printed without --summary."""
+    status, printed, errors = place.ran(WHY, 0, "", memo, "e", "--symbols", guest, "--summary")
     rows, head = rows_of(printed), printed.decode().split("\n")[:2]
-    checks.expect(f"a summary: {status} {said} {printed.decode()}", status == 0 and sum(row[0] for row in rows) == 7
+    checks.expect(f"a summary: {status} {errors} {printed.decode()}", status == 0 and sum(row[0] for row in rows) == 7
                   and head[0] == "why 7" and f" of {sum(row[1] for row in rows)} instructions " in head[1]
                   and b"own (`alignas(4096)`, or" in printed)
     lines = WHY.split("\n")[1:-1] * (MANY // 7 + 1)
     many = "".join(f"{line}\n" for line in [f"why {len(lines)}", *lines])
     for words, is_summed in ((("--all",), False), (("--symbols", guest), True)):
         before = processor_seconds()
-        status, printed, said = place.ran(many, 0, "", memo, "e", *words)
+        status, printed, errors = place.ran(many, 0, "", memo, "e", *words)
         spent = processor_seconds() - before
         counted = (sum(row[0] for row in rows_of(printed)) if is_summed
                    else len(re.findall(b"^step", printed, flags=re.M)))
-        checks.expect(f"{len(lines)} steps, {words}: {status} {said} {counted} in {spent:.1f} s of a processor",
+        checks.expect(f"{len(lines)} steps, {words}: {status} {errors} {counted} in {spent:.1f} s of a processor",
                       status == 0 and counted == len(lines) and spent < SECONDS)
-    status, printed, said = place.ran("why 0\n", 0, "", memo, "e", "--summary")
+    status, printed, errors = place.ran("why 0\n", 0, "", memo, "e", "--summary")
     checks.expect(f"a summary of nothing: {printed}", (status, printed) == (0, b"why 0\n"))
-    status, printed, said = place.ran(SHARED, 0, "", memo, "e", "--symbols", guest, "--summary")
-    told = " ".join(printed.decode().split())
-    checks.expect(f"a summary of a stack that threads share: {status} {said} {told}", status == 0 and SHARED_TOLD in told)
+    status, printed, errors = place.ran(SHARED, 0, "", memo, "e", "--symbols", guest, "--summary")
+    text = " ".join(printed.decode().split())
+    checks.expect(f"a summary of a stack that threads share: {status} {errors} {text}",
+                  status == 0 and SHARED_TEXT in text)
 
 
 def check_library(checks):
@@ -236,13 +237,13 @@ def check_library(checks):
     ran_whole(str(ROOT / "guest/build"), "--libc", "--symbols", str(source), str(elf))
     program("run", elf, checks.file("in", b"ab"), "--workers", "1", "--memo", memo)
     edits = checks.file("edits", b"set 0 7a\n")
-    status, printed, said = tool("why", memo, edits, "--symbols", elf)
-    told = printed.decode()
+    status, printed, errors = tool("why", memo, edits, "--symbols", elf)
+    text = printed.decode()
     for wanted in ("    from main, library.c:23 to create in main, library.c:24\n", " to lock in add, library.c:9\n",
                    "is in the block that main, library.c:22 allocates\n"):
-        checks.expect(f"the lines of a guest with a C library have `{wanted}`: {status} {said}\n{told}", wanted in told)
-    status, printed, said = tool("why", memo, edits, "--summary")
-    checks.expect(f"the summary by the memo's own symbols: {status} {said}\n{printed.decode()}",
+        checks.expect(f"lines of a guest with a C library have `{wanted}`: {status} {errors}\n{text}", wanted in text)
+    status, printed, errors = tool("why", memo, edits, "--summary")
+    checks.expect(f"the summary by the memo's own symbols: {status} {errors}\n{printed.decode()}",
                   b"the block that main, library.c:22 allocates, in " in printed)
 
 
@@ -308,11 +309,11 @@ def check_alone(checks):
     source, elf, memo = checks.file("alone.c", ALONE_FILE), checks.folder / "alone.elf", checks.folder / "alone.memo"
     ran_whole(str(ROOT / "guest/build"), "--symbols", str(source), str(elf))
     program("run", elf, checks.file("page", b"a" * 4096), "--workers", "1", "--memo", memo)
-    status, printed, said = tool("why", memo, checks.file("edits", b"set 100 7a\n"), "--symbols", elf, "--summary")
-    told = " ".join(printed.decode().split())
+    status, printed, errors = tool("why", memo, checks.file("edits", b"set 100 7a\n"), "--symbols", elf, "--summary")
+    text = " ".join(printed.decode().split())
     wanted = "8 steps, ", "one thread alone stores `buffer`, which ", "on a page that nothing shares, and 8 steps read that"
-    checks.expect(f"what is advised for a page of one thread: {status} {said} {told}",
-                  status == 0 and all(one in told for one in wanted) and "Give each thread" not in told)
+    checks.expect(f"what is advised for a page of one thread: {status} {errors} {text}",
+                  status == 0 and all(one in text for one in wanted) and "Give each thread" not in text)
 
 
 def is_shown(printed, block):
@@ -327,14 +328,14 @@ def is_shown(printed, block):
 def check_guide(checks):
     """The edits of the guide's walk, with the committed executable."""
     memo = checks.folder / "orders.memo"
-    told = re.findall(r"^tools/why orders\.memo (\S+) --symbols orders\.elf\n```\n.*?^```\n(why [0-9]+\n.*?)^```$",
+    blocks = re.findall(r"^tools/why orders\.memo (\S+) --symbols orders\.elf\n```\n.*?^```\n(why [0-9]+\n.*?)^```$",
                       (ROOT / "docs/GUESTS.md").read_text(), flags=re.S | re.M)
-    checks.expect(f"docs/GUESTS.md has the reasons of three edits, {len(told)}", len(told) == 3)
+    checks.expect(f"docs/GUESTS.md has the reasons of three edits, {len(blocks)}", len(blocks) == 3)
     program("run", WALK / "first.elf", WALK / "orders.in", "--workers", "1", "--memo", memo)
-    for edits, block in told:
-        _, printed, said = program("why", memo, ROOT / edits)
+    for edits, block in blocks:
+        _, printed, errors = program("why", memo, ROOT / edits)
         plain = "".join(line for line in block.splitlines(True) if not line.startswith("    "))
-        checks.expect(f"docs/GUESTS.md has the reasons of {edits}: {said}", is_shown(printed, plain))
+        checks.expect(f"docs/GUESTS.md has the reasons of {edits}: {errors}", is_shown(printed, plain))
 
 
 def check(checks):

@@ -40,25 +40,25 @@ def ran_whole(*words, **how):
 
 
 def on_terminal(*words):
-    """The status, what was printed, and what was said where standard error is a terminal; little may be printed."""
+    """The status, what was printed, and standard error, which is a terminal; little may be printed."""
     own, other = pty.openpty()
     with subprocess.Popen(words, stdin=subprocess.DEVNULL, stdout=subprocess.PIPE, stderr=other) as started:
         os.close(other)
-        said = b""
+        errors = b""
         try:
             while part := os.read(own, 65_536):
-                said += part
+                errors += part
         except OSError:  # it has ended
             pass
         os.close(own)
         printed = started.stdout.read()
-    return started.returncode, printed, said.decode("utf-8", "replace")
+    return started.returncode, printed, errors.decode("utf-8", "replace")
 
 
 def ran(*words):
     """The status, what was printed, and the first line on standard error."""
-    status, printed, said = ran_whole(*words)
-    return status, printed, said.partition("\n")[0]
+    status, printed, errors = ran_whole(*words)
+    return status, printed, errors.partition("\n")[0]
 
 
 def is_built(name):
@@ -67,7 +67,7 @@ def is_built(name):
     return subprocess.run([str(ROOT / name), "--help"], check=False, **quiet).returncode != 125
 
 
-def is_gone(process):
+def has_ended(process):
     """Whether a process has ended, or does so within some seconds."""
     end = time.monotonic() + 5
     while True:

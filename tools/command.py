@@ -53,7 +53,7 @@ class Command:
         sys.exit(status)
 
     def content(self, name, most=-1):
-        """The bytes of a file, or of standard input, which `-` names; so many of them at most, where that is said."""
+        """The bytes of a file, or of standard input, which `-` names; at most so many, if a number is given."""
         try:
             if name != "-":
                 with open(name, "rb") as file:
@@ -88,7 +88,7 @@ class Command:
 
     def inputs(self, name, lists, first, count, may_lack=False):
         """The inputs of so many rounds, the first of this number: what edit lists make of a file, and for round 0 the
-        file itself; for a rerun without a list, too. Rounds may be lacking at the end, if that is said."""
+        file itself; for a rerun without a list, too. With `may_lack` rounds may be lacking at the end."""
         try:
             made = edit_lists.inputs(self.content(name), lists, self.content)
         except edit_lists.Refused as why:
@@ -121,6 +121,6 @@ class Command:
         except OSError as error:
             self.refuse(2, f"printing failed: {error.strerror}")
 
-    def tell(self, text):
+    def print_text(self, text):
         """Prints a text, in which names may have any bytes."""
         self.put(text.encode("utf-8", "surrogateescape"))

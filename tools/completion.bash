@@ -1,14 +1,14 @@
 # Completion for bash, of `ithreads` and of the tools beside it: commands, options and names of files. Which there are is
-# read from what each says with --help, once in a shell. A program that isn't built stays so.
+# read from what each prints with --help, once in a shell. A program that isn't built stays so.
 
-declare -gA _ithreads_said
+declare -gA _ithreads_help_texts
 
-# _ithreads_help WORDS..: what a command says with --help, in $help
+# _ithreads_help WORDS..: what a command prints with --help, in $help
 _ithreads_help() {
-    help=${_ithreads_said[$*]-}
+    help=${_ithreads_help_texts[$*]-}
     [ -z "$help" ] || return
     help=$(ITHREADS_NO_BUILD=1 "$@" --help 2>&1 </dev/null)
-    [ $? -eq 125 ] || _ithreads_said[$*]=$help
+    [ $? -eq 125 ] || _ithreads_help_texts[$*]=$help
 }
 
 # _ithreads_command: the command of `ithreads` among the words before the one that is completed, in $command

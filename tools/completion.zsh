@@ -1,6 +1,6 @@
 #compdef ithreads -P ithreads-*
 # Completion for zsh, of `ithreads` and of the tools beside it: commands, options and names of files. Which there are is
-# read from what each says with --help. A program that isn't built stays so.
+# read from what each prints with --help. A program that isn't built stays so.
 
 local -a called about
 local -x ITHREADS_NO_BUILD=1

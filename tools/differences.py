@@ -92,11 +92,11 @@ def best_cut(old, new, runs, zeros):
     cuts = [least, *hopeful(new, runs, zeros, least)]
     if len(cuts) == 1:
         return least
-    kept, made = Costs(runs), Costs(not_zero(new, min(cuts)))
+    old_costs, new_costs = Costs(runs), Costs(not_zero(new, min(cuts)))
 
     def cost(cut):
-        before, last = kept.before(cut)
-        return before + made.behind(cut, last) + len(size_lines(old, new, cut))
+        before, last = old_costs.before(cut)
+        return before + new_costs.behind(cut, last) + len(size_lines(old, new, cut))
     return min(cuts, key=cost)
 
 

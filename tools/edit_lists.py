@@ -11,7 +11,7 @@ class Refused(Exception):
 
 
 class BadLine(Exception):
-    """A line spells no edit: at `place` something else is `wanted`."""
+    """A line is no edit: at `place` something else is `wanted`."""
 
     def __init__(self, line, place, wanted):
         there = f"`{shown(line[place:])}`" if place < len(line) else "the line's end"

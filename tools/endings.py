@@ -14,7 +14,7 @@ TRAPS = [  # by cause
     "a store to an address that isn't a multiple of its size", "a store where nothing may be stored",
     "a call of a number that there isn't",
 ]
-FUEL, STEPS = 1_000_000, 4096  # the limits of a run, where nothing is said
+FUEL, STEPS = 1_000_000, 4096  # the limits of a run by default
 ENDS = {"trap": 211, "deadlock": 212, "spent": 213}
 FORBIDDEN = 10  # the status of a replay or a trace whose schedule no run takes
 NOT_BUILT = 125  # a status of tools/launch
@@ -56,14 +56,14 @@ def rounds_of(printed):
 
 def how(last, limit):
     """How a round ended that didn't exit. Where it had all steps, the last one's fuel may have been spent as well."""
-    said = " ".join(map(str, last.end.values()))
+    text = " ".join(map(str, last.end.values()))
     if last.end["kind"] == "spent":
         thread = last.schedule[-1][0]
-        said += (f": it had {last.steps} steps, as many as --steps allows" if last.steps == limit else
-                 f": thread {thread} went on without a call for as many turns as --fuel allows")
+        text += (f": it had {last.steps} steps, as many as --steps allows" if last.steps == limit else
+                 f": thread {thread} ran without a call for as many turns as --fuel allows")
     if last.end["kind"] == "trap":
-        said += f": thread {last.end['thread']}, at 0x{int(last.end['pc'], 16):x}: {TRAPS[last.end['cause']]}"
-    return f"round {last.number} ended by {said}"
+        text += f": thread {last.end['thread']}, at 0x{int(last.end['pc'], 16):x}: {TRAPS[last.end['cause']]}"
+    return f"round {last.number} ended by {text}"
 
 
 def status_of(last):

@@ -15,7 +15,7 @@ def first(tool, name):
     """The place of the first false step of a memo; none if it is honest."""
     done = ran(PROGRAM, "audit", "--", name)
     if done.status not in (0, DISHONEST):
-        tool.refuse(2, f"ithreads ended with status {done.status}: {done.complaint()}")
+        tool.refuse(2, f"ithreads ended with status {done.status}: {done.last_error()}")
     return int(done.printed.split()[-1]) if done.status else None
 
 
@@ -48,20 +48,20 @@ def differences(memo, place):
         yield f"end: {record.ended()}, and the machine's is {made}"
     if record.count != step.count:
         yield f"count: {record.count}, and the machine makes {step.count} turns"
-    for register, (told, found) in enumerate(zip(record.finish, [step.pc, *x[1:]])):
-        if told != found:
-            yield f"{f'register x{register}' if register else 'pc'}: {told:08x}, and the machine has {found:08x}"
+    for register, (recorded, found) in enumerate(zip(record.finish, [step.pc, *x[1:]])):
+        if recorded != found:
+            yield f"{f'register x{register}' if register else 'pc'}: {recorded:08x}, and the machine has {found:08x}"
     yield from differing_stores({page: bytes_of(*stored) for page, stored in record.stores.items()}, machine.stored)
 
 
-def differing_stores(told, found):
+def differing_stores(recorded, found):
     """The first stored byte of each page that differs, in words."""
-    for page in sorted(told.keys() | found.keys()):
-        one, other = told.get(page, {}), found.get(page, {})
+    for page in sorted(recorded.keys() | found.keys()):
+        one, other = recorded.get(page, {}), found.get(page, {})
         at = next((at for at in sorted(one.keys() | other.keys()) if one.get(at) != other.get(at)), None)
         if at is not None:
-            kept, made = (f"{byte:02x}" if byte is not None else "nothing" for byte in (one.get(at), other.get(at)))
-            yield f"stored byte at {page * 4096 + at:08x}: {kept}, and the machine stores {made}"
+            old, new = (f"{byte:02x}" if byte is not None else "nothing" for byte in (one.get(at), other.get(at)))
+            yield f"stored byte at {page * 4096 + at:08x}: {old}, and the machine stores {new}"
 
 
 def sentences(memo, place):

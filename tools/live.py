@@ -1,6 +1,6 @@
 """A line on a terminal that says how far a tool is: from its second second on, at most twice a second, written over and
-gone at the end. Standard output stays as it is, and where standard error is no terminal, or ITHREADS_QUIET is set, there
-is no line."""
+erased at the end. Standard output stays as it is. If standard error is no terminal, or ITHREADS_QUIET is set, there is
+no line."""
 import os
 import sys
 import threading
@@ -11,10 +11,10 @@ ERASED = "\r\x1b[K"  # ECMA-48, 8.3.41
 
 
 class Live:
-    """As a `with`: shows the text of `said` and the seconds so far."""
+    """A context manager: shows `text` and the seconds so far. The caller may change `text` meanwhile."""
 
-    def __init__(self, said):
-        self.said, self.over, self.drawn = said, threading.Event(), False
+    def __init__(self, text):
+        self.text, self.over, self.drawn = text, threading.Event(), False
         self.shown = sys.stderr is not None and sys.stderr.isatty() and "ITHREADS_QUIET" not in os.environ
 
     def __enter__(self):
@@ -28,7 +28,7 @@ class Live:
         while not self.over.wait(wait):
             wait = AGAIN
             self.drawn = True
-            self.write(f"\r{self.said}, {time.monotonic() - began:.0f} s\x1b[K")
+            self.write(f"\r{self.text}, {time.monotonic() - began:.0f} s\x1b[K")
 
     @staticmethod
     def write(text):
@@ -39,7 +39,7 @@ class Live:
             pass
 
     def erase(self):
-        """Takes the line away, before something is printed."""
+        """Erases the line, before something is printed."""
         if self.drawn:
             self.write(ERASED)
 

@@ -1,5 +1,5 @@
-"""A machine of guests that shares no code with the program, by docs/MACHINE.md: which thread makes the next step is
-said from outside, step by step. It executes some million instructions a second, keeps no records and reuses nothing.
+"""A machine of guests that shares no code with the program, by docs/MACHINE.md: the caller decides, step by step,
+which thread makes the next one. It executes some million instructions a second, keeps no records and reuses nothing.
 
 `Image` is an executable, with its translated code; `Machine` a run of it on an input.
 """
@@ -243,16 +243,16 @@ class Machine(Calls):
         kind, place = self.threads[number].waits
         if kind == "end":
             return f"waits for the end of thread {place}"
-        told = f"waits for {kind} {place}"
+        text = f"waits for {kind} {place}"
         if kind == "condition":
-            told += f", with mutex {self.mutex_of[number]}"
+            text += f", with mutex {self.mutex_of[number]}"
         if kind == "mutex":
-            told += f", held by thread {self.owner[place]}"
+            text += f", held by thread {self.owner[place]}"
         if kind == "rwlock":
-            told += f" to {'write' if number in self.to_write else 'read'}"
-            told += "".join(f"{', held by' if at == 0 else ' and'} thread {holder}"
+            text += f" to {'write' if number in self.to_write else 'read'}"
+            text += "".join(f"{', held by' if at == 0 else ' and'} thread {holder}"
                             for at, holder in enumerate(sorted(self.holders(place))))
-        return told
+        return text
 
     def written(self, put):
         """Puts bytes out, if they aren't refused."""

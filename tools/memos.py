@@ -104,7 +104,7 @@ def runs(mask):
         first = bits.find("1", behind)
 
 
-def lay(page, mask, data):
+def store(page, mask, data):
     """Stores bytes at the places of a page that a mask marks."""
     at = 0
     for first, behind in runs(mask):

@@ -2,7 +2,7 @@
 in it a box for each step, in the order of the schedule from left to right.
 
 A box is the wider the more instructions its step has, where that is known, by one scale for all rounds. Executed steps
-are orange and hatched, reused ones light blue and plain, which eyes that see fewer colours can tell too. A round of
+are orange and hatched, reused ones light blue and plain, which the colour-blind can distinguish too. A round of
 more than FOLDED steps is folded: by function, if functions are known, so that the steps of a lane that follow each
 other in one function, all executed or all reused, are one box; and then by time, so that the boxes of a lane in one
 column are one. The hatched part of a box is as high as its share of executed steps, and never too low to be seen. Boxes
@@ -18,12 +18,12 @@ FOLDED = 200  # steps of a round that are drawn one by one
 MOST_BOXES = 8000  # of a picture, about
 COLUMN = 4  # the least width of a column of a round that is folded
 LEAST_HIGH = 5  # of what was executed
-TOLD = 3  # of the calls and the places that are told of a box of several steps
+LISTED = 3  # of the calls and the places that the title of a box of several steps has
 MARGIN, LABELS = 16, 78  # beside the picture, and for the names of lanes
 LANE, BOX, HEAD, GAP = 36, 22, 30, 26  # heights: of a lane, a box, a round's heading, and between rounds
 INSIDE, MOST_INSIDE, FOLDED_INSIDE = 1000, 3000, 1250  # the widths that all steps of a round may take
 STEP = 7  # the least width of a box, where there is room
-SHARE = 0.45  # of the width goes by instructions
+SHARE = 0.45  # of the width is by instructions
 STYLE = """
 text { font: 12px system-ui, 'DejaVu Sans', sans-serif; fill: #222; }
 .head { font-weight: bold; }
@@ -95,7 +95,7 @@ def listed(pages):
     return ", ".join(pages) if pages else "nothing"
 
 
-def said_of_step(step):
+def step_text(step):
     """All that is known of a step, in lines."""
     lines = [f"step {step.place}: thread {step.thread}, number {step.number}, "
              f"{'reused' if step.is_reused else 'executed'}", step.text]
@@ -106,8 +106,8 @@ def said_of_step(step):
     return "\n".join(line for line in lines if line)
 
 
-def said_of_steps(box):
-    """What is told of several steps together."""
+def steps_text(box):
+    """What is known of several steps together, in lines."""
     first, last, executed = box.steps[0], box.steps[-1], box.executed
     counts = [step.count for step in box.steps]
     lines = [f"steps {first.place} to {last.place} of thread {first.thread}, its numbers {first.number} to "
@@ -123,8 +123,8 @@ def said_of_steps(box):
 def most_of(what, names):
     """The most frequent of some names, in a line; none where there are none."""
     counts = Counter(names)
-    told = ", ".join(f"{count} {name}" for name, count in counts.most_common(TOLD))
-    return [f"{what}: {told}{', ..' if len(counts) > TOLD else ''}"] if told else []
+    text = ", ".join(f"{count} {name}" for name, count in counts.most_common(LISTED))
+    return [f"{what}: {text}{', ..' if len(counts) > LISTED else ''}"] if text else []
 
 
 def heading(report):
@@ -211,11 +211,11 @@ def joined(boxes, may=touch):
 # What is drawn.
 
 
-def element(name, said, **attributes):
-    """An element, with a text for who points at it."""
+def element(name, title, **attributes):
+    """An element, with a title that is shown where the mouse points at it."""
     written = "".join(f' {key}="{round(value, 1) if isinstance(value, float) else value}"' for key, value in
                       attributes.items())
-    return f"<{name}{written}><title>{clean(said)}</title></{name}>\n" if said else f"<{name}{written}/>\n"
+    return f"<{name}{written}><title>{clean(title)}</title></{name}>\n" if title else f"<{name}{written}/>\n"
 
 
 def label(x, y, text, kind):
@@ -245,10 +245,10 @@ class Drawing:
     def box(self, box):
         """A box, and in it the name of its call, where there is room."""
         y, width, executed = self.lanes[box.steps[0].thread] - BOX / 2, box.right - box.left, box.executed
-        said = said_of_step(box.steps[0]) if len(box.steps) == 1 else said_of_steps(box)
+        title = step_text(box.steps[0]) if len(box.steps) == 1 else steps_text(box)
         high = max(BOX * executed / len(box.steps), LEAST_HIGH if executed else 0)
         made = (f'<g class="steps" data-count="{len(box.steps)}" data-executed="{executed}">'
-                f"<title>{clean(said)}</title>\n")
+                f"<title>{clean(title)}</title>\n")
         for kind, at, height in (("reused", y, BOX), ("executed", y + BOX - high, high)):
             if height and (kind == "executed" or executed < len(box.steps)):
                 made += element("rect", "", **{"class": kind}, x=box.left, y=at, width=width, height=height)

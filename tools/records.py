@@ -56,12 +56,12 @@ class Records:
         for page, (mask, data) in step.stores.items():
             self.storers.setdefault(page, set()).add(step.thread)
             if low <= page < low + STACK // PAGE:
-                memos.lay(self.stacks.setdefault(page, bytearray(PAGE)), mask, data)
+                memos.store(self.stacks.setdefault(page, bytearray(PAGE)), mask, data)
 
     def word(self, address):
         """A word of a stack; 0 where nothing was stored."""
-        kept = self.stacks.get(address // PAGE)
-        return int.from_bytes(kept[address % PAGE:address % PAGE + 4], "little") if kept else 0
+        page = self.stacks.get(address // PAGE)
+        return int.from_bytes(page[address % PAGE:address % PAGE + 4], "little") if page else 0
 
 
 def beside(address):

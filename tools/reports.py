@@ -1,6 +1,6 @@
 """Reads what `ithreads run` and `ithreads rerun` print: reports of rounds, one behind the other, by docs/FORMATS.md.
 
-It goes by the lengths that the lines say, since a guest's output may have any bytes, also those of a report.
+It relies on the lengths that the lines have, since a guest's output may have any bytes, also those of a report.
 `rounds(bytes)` gives round after round, and raises `NotReports` with the first byte that can't be one of a report.
 `replay(bytes)` does so of what `ithreads replay` prints.
 """

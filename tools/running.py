@@ -1,4 +1,4 @@
-"""Runs a program of this repository. What it says while it is built goes on to standard error at once."""
+"""Runs a program of this repository. While it is built, its lines on standard error are passed on at once."""
 import contextlib
 import signal
 import subprocess
@@ -13,15 +13,15 @@ OF_BUILDING = ("ithreads: ", "trace: ")  # how lines of tools/launch begin, and 
 
 @dataclass
 class Ran:
-    """What came of it: the status, what was printed, and its own lines on standard error."""
+    """The result of a run: the status, what was printed, and the program's own lines on standard error."""
 
     status: int
     printed: bytes
-    said: list
+    errors: list
 
-    def complaint(self):
-        """The last of the lines, or what the status means."""
-        return self.said[-1] if self.said else FAILURES.get(self.status, "")
+    def last_error(self):
+        """The last line on standard error, or what the status means."""
+        return self.errors[-1] if self.errors else FAILURES.get(self.status, "")
 
 
 @contextlib.contextmanager
@@ -63,7 +63,8 @@ def printed_by(*words):
         return child.wait(), printed
 
 
-def listen(stream, said, live):
+def listen(stream, errors, live):
+    """Passes lines of the build on to standard error, and adds the others to `errors`."""
     for line in stream:
         line = line.decode("utf-8", "replace").rstrip("\n")
         if line.startswith(OF_BUILDING):
@@ -71,16 +72,16 @@ def listen(stream, said, live):
                 live.erase()
             print(line, file=sys.stderr, flush=True)
         else:
-            said.append(line)
+            errors.append(line)
 
 
 def ran(*words, live=None):
-    """Runs it to its end. A line on a terminal is taken away before something is said."""
-    said = []
+    """Runs a program to its end. The line of `live` is erased before a line of the build is printed."""
+    errors = []
     with started(*words, stdout=subprocess.PIPE, stderr=subprocess.PIPE) as child:
-        listener = threading.Thread(target=listen, args=(child.stderr, said, live), daemon=True)
+        listener = threading.Thread(target=listen, args=(child.stderr, errors, live), daemon=True)
         listener.start()
         printed = child.stdout.read()
         status = child.wait()
         listener.join()
-    return Ran(status, printed, said)
+    return Ran(status, printed, errors)

@@ -64,10 +64,10 @@ def spent(steps, thread, fuel, limit, instructions=MOST_FUEL):
         return (f"the run had {steps:,} steps, as many as --steps allows: "
                 f"{STEPS if limit < 65_536 else 'make fewer calls'}")
     allowed = f"{fuel:,} instructions" if fuel else "as many instructions as --fuel allows (1,000,000 unless it is given)"
-    said = f"a step of thread {thread} had {allowed} without a call{', as many as --fuel allows' if fuel else ''}: "
+    text = f"a step of thread {thread} had {allowed} without a call{', as many as --fuel allows' if fuel else ''}: "
     if (fuel or instructions) < MOST_FUEL:
-        return said + FUEL
-    return said + (CALL if fuel else f"give --fuel 16777216; if that was given, {CALL}") + f". {LOOPS}"
+        return text + FUEL
+    return text + (CALL if fuel else f"give --fuel 16777216; if that was given, {CALL}") + f". {LOOPS}"
 
 
 def file_named(name):
@@ -105,10 +105,10 @@ def bad_line(name, line):
     except (OSError, ValueError):
         lines = []
     there = lines[int(line) - 1] if len(lines) >= int(line) else b""
-    said = f"line {line} of {name} is neither `set OFFSET HEX` nor `size LENGTH`"
+    text = f"line {line} of {name} is neither `set OFFSET HEX` nor `size LENGTH`"
     if there.startswith((b"set", b"size")):
-        return f"{said}; tools/check-edits {name} LENGTH says what is wrong in it"
-    return f"{said}: {name} seems to be no edit list. `tools/edits OLD NEW` makes one of two versions of the input"
+        return f"{text}; tools/check-edits {name} LENGTH says what is wrong in it"
+    return f"{text}: {name} seems to be no edit list. `tools/edits OLD NEW` makes one of two versions of the input"
 
 
 def out_of_range(name, line):

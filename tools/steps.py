@@ -7,7 +7,6 @@ rounds behind, and from which it was reused, in those before.
 import re
 from dataclasses import dataclass, field
 
-import reports
 from calls import CALLS, CREATE, PUT
 
 
@@ -178,12 +177,12 @@ class Rounds:
         """What `./trace` says of the schedule of a round."""
         lines, count = lines_of(text), len(self.steps[number])
         for line, found in found_in(lines[:count], 1, STEP, "a step"):
-            step, said = self.step(number, line, found), found.group(5)
-            step.count, step.text = int(found.group(4)), said
-            step.call = "fuel" if said.startswith("no call ") else re.match(r"[a-z_]*", said).group()
-            waits, begins = WAITS.search(said), BEGINS.match(said)
+            step, rest = self.step(number, line, found), found.group(5)
+            step.count, step.text = int(found.group(4)), rest
+            step.call = "fuel" if rest.startswith("no call ") else re.match(r"[a-z_]*", rest).group()
+            waits, begins = WAITS.search(rest), BEGINS.match(rest)
             step.waits = waits and waits.group(1)
-            step.wakes = [int(thread) for thread in WAKES.findall(said)]
+            step.wakes = [int(thread) for thread in WAKES.findall(rest)]
             step.begins = begins and int(begins.group(1))
         if not lines[count:] or not lines[count].startswith("end "):
             raise Refused(min(count, len(lines)) + 1, f"round {number} has {count} steps, and then an end is wanted")

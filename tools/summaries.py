@@ -101,12 +101,12 @@ def most_of(places):
 
 
 def in_sentence(text):
-    """A place, or a name that has one, as it is told in a sentence: with the line in parentheses."""
+    """A place, or a name that has one, as it stands in a sentence: with the line in parentheses."""
     return re.sub(r", ([^ ,]+:[0-9]+)", r" (\1)", text)
 
 
 def function_of(place):
-    """The function of a place that is told with its line."""
+    """The function of a place, without its line."""
     return (place or "?").partition(",")[0]
 
 
@@ -115,7 +115,7 @@ class Summary:
 
     def __init__(self, explained):
         self.explained, self.rows, self.origins = explained, {}, {}
-        for one in explained.told:
+        for one in explained.reasons:
             self.add(one)
         self.sorted = sorted(self.rows.values(), key=lambda row: (-row.instructions, -row.steps, row.name))
 
@@ -158,18 +158,18 @@ class Summary:
 
     def text(self):
         """The table, and the changes."""
-        told, instructions = self.sorted, sum(row.instructions for row in self.sorted)
-        steps = sum(row.steps for row in told)
+        rows, instructions = self.sorted, sum(row.instructions for row in self.sorted)
+        steps = sum(row.steps for row in rows)
         yield f"why {steps}\n"
-        if not told:
+        if not rows:
             return
         yield f"{steps:,} steps of {instructions:,} instructions are executed again. By what differs first:\n\n"
         yield f"{'steps':>7}  {'instructions':>12}  {'page':11}  what\n"
-        for row in told[:ROWS]:
+        for row in rows[:ROWS]:
             yield f"{row.steps:7,}  {row.instructions:12,}  {row.page():11}  {row.name}{self.places(row)}\n"
-        if more := told[ROWS:]:
+        if more := rows[ROWS:]:
             yield f"{sum(row.steps for row in more):7,}  {sum(row.instructions for row in more):12,}  {'':11}  others\n"
-        changes = [row for row in told if advice(row) and row.all_instructions() * LEAST_SHARE >= max(instructions, 1)]
+        changes = [row for row in rows if advice(row) and row.all_instructions() * LEAST_SHARE >= max(instructions, 1)]
         changes = sorted(changes, key=lambda row: -row.all_instructions())[:CHANGES]
         if changes:
             yield "\nChanges that would save most:\n"
@@ -180,16 +180,16 @@ class Summary:
     @staticmethod
     def counts(row):
         """The steps that a change would save, and their instructions."""
-        told = f"{row.steps:,} step{'s' * (row.steps > 1)}, {row.instructions:,} instructions"
+        text = f"{row.steps:,} step{'s' * (row.steps > 1)}, {row.instructions:,} instructions"
         if row.carried[0]:
-            told += f", and {row.carried[0]:,} behind them for what these leave in registers, {row.carried[1]:,}"
-        return told
+            text += f", and {row.carried[0]:,} behind them for what these leave in registers, {row.carried[1]:,}"
+        return text
 
     @staticmethod
     def places(row):
         where, stored = row.where(), most_of(row.stored)
-        told = f", in {where}" if where else ""
-        return told + (f"; stored by {stored}" if stored and row.pages else "")
+        text = f", in {where}" if where else ""
+        return text + (f"; stored by {stored}" if stored and row.pages else "")
 
 
 def advice_for(row):

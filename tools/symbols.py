@@ -79,7 +79,7 @@ class Symbols:
     def __init__(self, name, elf, has_names=True):
         self.name, self.found, self.segments = name, symbols_of(elf) if has_names else [], segments(elf)
         self.starts, self.lines, self.pages = [symbol.address for symbol in self.found], {}, {}
-        self.known = {}  # the symbols of addresses that were asked for
+        self.known = {}  # the symbols of addresses that were looked up
         self.library = set()  # where its functions begin
         self.labels = {symbol.name: symbol.address for symbol in self.found if symbol.name.startswith("it_")}
         self.library_files = {file.name for file in LIBRARY.glob("*.c")} if "it_shared" in self.labels else set()
@@ -134,7 +134,7 @@ class Symbols:
                         if frames and OF_LIBRARY.search(frames[-1].get("FileName", ""))}
 
     def is_library(self, address):
-        """Whether an address of code is in a function of the C library, as far as that was asked for."""
+        """Whether an address of code is in a function of the C library, once read_library has found these."""
         symbol = self.at(address) if self.library else None
         return symbol is not None and symbol.address in self.library
 
@@ -177,10 +177,10 @@ class Symbols:
 def of_symbolizer(printed):
     """The functions and lines of what llvm-symbolizer prints."""
     try:
-        told = json.loads(printed or b"[]")
+        found = json.loads(printed or b"[]")
     except json.JSONDecodeError:
-        told = []
-    yield from ((int(one["Address"], 16), one.get("Symbol", [])) for one in told)
+        found = []
+    yield from ((int(one["Address"], 16), one.get("Symbol", [])) for one in found)
 
 
 def of_addr2line(printed):

@@ -29,8 +29,8 @@ class Table:
     def heads(self):
         """The round's line, and the threads'."""
         one = self.report
-        said = f"round {one.number}: {reports.end_text(one.end)}, {one.reused} of {one.steps} reused"
-        return said, "".join(f"thread {thread}".ljust(self.width) for thread in self.threads)
+        head = f"round {one.number}: {reports.end_text(one.end)}, {one.reused} of {one.steps} reused"
+        return head, "".join(f"thread {thread}".ljust(self.width) for thread in self.threads)
 
     def row(self, place):
         """A step in its thread's column, or nothing behind the last."""

@@ -32,8 +32,8 @@ def how_it_ended(end):
 
 def call_of_again(_, notes):
     """What tools/again says of a call: the reasons behind the counts are what matters."""
-    told = [sentence for note in notes.split("; ")[::-1] if (sentence := sentences.found_in(OF_AGAIN, note))]
-    return ". ".join([told[0], *(one[:1].upper() + one[1:] for one in told[1:])] if told else [COUNTS])
+    found = [sentence for note in notes.split("; ")[::-1] if (sentence := sentences.found_in(OF_AGAIN, note))]
+    return ". ".join([found[0], *(one[:1].upper() + one[1:] for one in found[1:])] if found else [COUNTS])
 
 
 def spent_again(thread):
@@ -45,7 +45,7 @@ def spent_again(thread):
 COUNTS = ("so many steps were taken from the run that was kept, and so many executed. Many executed ones after a small "
           "edit: tools/why says what they read")
 OF_AGAIN = [
-    (r"round \d+ ended by spent: thread (\d+) went on without a call .*", spent_again),
+    (r"round \d+ ended by spent: thread (\d+) ran without a call .*", spent_again),
     (r"round \d+ ended by spent: it had ([\d,]+) steps, .*",
      "the run had {1} steps, as many as --steps allows. If no --steps was given, tools/again has tried the largest, "
      "65,536: make fewer calls"),

@@ -22,8 +22,8 @@ class Table:
 
 
 def more_of(step):
-    """What is told of a step behind its line and its instructions."""
-    return "\n".join(line for line in pictures.said_of_step(step).split("\n")[1:] if not line.endswith(" instructions"))
+    """What is known of a step, without its line and its instructions."""
+    return "\n".join(line for line in pictures.step_text(step).split("\n")[1:] if not line.endswith(" instructions"))
 
 
 def lines_of(steps):

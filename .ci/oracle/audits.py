@@ -10,7 +10,7 @@ def verdict(memo):
         turns += made.count
         if made != record and first is None:
             first = place
-        machine.lay(record)
+        machine.apply(record)
     return turns, first
 
 

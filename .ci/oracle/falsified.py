@@ -11,7 +11,7 @@ from .rounds import report_of
 
 def drawn_round(machine, past, workers, draw):
     """The schedule with marks and the shares of a round that drawn workers make on a machine at its start."""
-    out, shares, schedule = {}, [0] * workers, []
+    running, shares, schedule = {}, [0] * workers, []
 
     def made(thread, mark, worker):
         machine.make(thread)
@@ -19,15 +19,15 @@ def drawn_round(machine, past, workers, draw):
         shares[worker] += 1
 
     while machine.ended is None:
-        idle = [worker for worker in range(workers) if worker not in out.values()]
-        thread = lone_pick(machine, past, out) if idle else None
-        if thread is None or out and draw.random() < 0.4:
-            thread = draw.choice(sorted(out))
-            made(thread, "+", out.pop(thread))
+        idle = [worker for worker in range(workers) if worker not in running.values()]
+        thread = lone_pick(machine, past, running) if idle else None
+        if thread is None or running and draw.random() < 0.4:
+            thread = draw.choice(sorted(running))
+            made(thread, "+", running.pop(thread))
         elif machine.fits(thread, past.next_record(machine, thread)):
             made(thread, "=", draw.choice(idle))
         else:
-            out[thread] = draw.choice(idle)
+            running[thread] = draw.choice(idle)
     return schedule, shares
 
 
@@ -36,23 +36,23 @@ def drawn_progress(steps, workers, draw):
     return [*sorted(draw.sample(range(steps), draw.randrange(min(steps, 9)) if workers > 1 else 0)), steps]
 
 
-def drawn_rounds(elf, inputs, workers, draw, told=False):
-    """The reports of rounds on some inputs, one behind the other, as drawn workers make them; and whether they have the
-    lines that are asked for."""
+def drawn_rounds(elf, inputs, workers, draw, has_lines=False):
+    """The reports of rounds on some inputs, one behind the other, as drawn workers make them, with the lines `reached`
+    and `progress` if `has_lines` says so."""
     past, made, before, image = NOTHING, [], None, executables.read(elf)
     for number, data in enumerate(inputs):
         machine, again = Machine(image, data=data), Machine(image, data=data)
         changed, before = changed_pages(again, before) if before else set(), again
         schedule, shares = drawn_round(machine, past, workers, draw)
         more = {"reached": sum(past.reached(changed)),
-                "progress": drawn_progress(len(schedule), workers, draw)} if told else {}
+                "progress": drawn_progress(len(schedule), workers, draw)} if has_lines else {}
         made.append(report_of(machine, schedule, shares, number, **more))
         past = History(machine.steps)
     return made
 
 
 def remade(printed, **changed):
-    """A report with other fields, whose counts go with its schedule, and whose shares sum where they aren't said."""
+    """A report with other fields, whose counts are those of its schedule; shares that aren't given sum to its steps."""
     schedule = changed.get("schedule", printed.schedule)
     executed = sum(mark == "+" for _, mark in schedule)
     more = len(schedule) - printed.steps
@@ -116,8 +116,8 @@ def falsified(first, later, again):
     yield "all old steps reached", 1, remade(later, reached=later.steps)
     yield "steps reached from scratch", 0, remade(first, reached=first.steps)
     yield "steps reached without an edit", 2, remade(again, reached=later.reached)
-    yield "what is reached untold", 1, remade(later, reached=None)
-    yield "the progress untold", 1, remade(later, progress=None)
+    yield "the line `reached` left out", 1, remade(later, reached=None)
+    yield "the line `progress` left out", 1, remade(later, progress=None)
     yield "the last number left out of the progress", 0, remade(first, progress=[0])
     yield "a number twice", 0, remade(first, progress=[first.steps, first.steps])
     yield "numbers that aren't in order", 1, remade(later, progress=[2, 1, later.steps])

@@ -51,7 +51,7 @@ class Forger:
         """The records of a run that has this one at a place, and goes on as one worker makes it."""
         machine = self.start()
         for other in [*self.records[:place], record]:
-            machine.lay(other)
+            machine.apply(other)
         alone(machine)
         return [step.record for step in machine.steps]
 
@@ -112,7 +112,7 @@ def forged(forger, draw):
     for place in sorted(draw.sample(range(count), min(count, 3))):
         machine = forger.start()
         for record in forger.records[:place]:
-            machine.lay(record)
+            machine.apply(record)
         record = forger.records[place]
         for what, false in falsified(record, machine.threads[record.thread].view, draw):
             yield f"{what} at {place}", forger.memo(forger.behind(place, false))

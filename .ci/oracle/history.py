@@ -91,24 +91,24 @@ def is_due(machine, history, place):
                for other, count in enumerate(history.clocks[place]))
 
 
-def lone_pick(machine, history, out=()):
-    """The thread whose step a worker makes next, while these are out; None where a commit must be waited for, or
-    nothing is ready."""
-    ready = [number for number in range(len(machine.threads)) if machine.is_ready(number) and number not in out]
+def lone_pick(machine, history, running=()):
+    """The thread whose step a worker makes next, while others execute steps of the threads `running`; None if a commit
+    must be waited for, or nothing is ready."""
+    ready = [number for number in range(len(machine.threads)) if machine.is_ready(number) and number not in running]
     places = {number: history.next_place(machine, number) for number in ready}
 
     def rank(number):
         return places[number] is None, places[number] or 0, machine.threads[number].made, number
 
     due = [number for number in ready if places[number] is None or is_due(machine, history, places[number])]
-    return min(due or (() if out else ready), key=rank, default=None)
+    return min(due or (() if running else ready), key=rank, default=None)
 
 
 def reuse(machine, history, number):
     """One step of a thread, by its record where that fits; its mark."""
     record = history.next_record(machine, number)
     if machine.fits(number, record):
-        machine.lay(record)
+        machine.apply(record)
         return "="
     machine.make(number)
     return "+"

@@ -1,13 +1,13 @@
-"""The machine, by docs/MACHINE.md. A step is a record that is laid: the one of the thunk that is executed there, or one
-of a memo, true or not. Which thread makes the next step is said from outside, so that it takes any schedule; history.py
-beside it has the choice of one worker. What a call does to threads and objects is in tools/calls.py."""
+"""The machine, by docs/MACHINE.md. A step is a record that is applied: the one of the thunk that is executed there, or
+one of a memo, true or not. The caller decides which thread makes the next step, so that it takes any schedule;
+history.py beside it has the choice of one worker. What a call does to threads and objects is in tools/calls.py."""
 import hashlib
 from dataclasses import dataclass, field
 
 from calls import (BARRIER_INIT, CALLS, COND_WAIT, CREATE, EFAULT, EINVAL, EXIT, JOIN, MOST_PUT, MOST_VALUE, OBJECTS,
                    PUT, SEM_INIT, THREAD_EXIT, THREADS, Calls)
 from executables import BESIDE_THE_IMAGE, HEADER, PAGE, READ, STACKS, WRITE, ZEROS
-from memos import CALL, FIRST, FUEL, NUMBER, SECOND, WHOLE_PAGE, Record, lay
+from memos import CALL, FIRST, FUEL, NUMBER, SECOND, WHOLE_PAGE, Record, store
 
 from .turns import Thunk, put_pages
 
@@ -53,7 +53,7 @@ def over(page, mask, data):
     if mask == WHOLE_PAGE:
         return data
     made = bytearray(page)
-    lay(made, mask, data)
+    store(made, mask, data)
     return bytes(made)
 
 
@@ -72,8 +72,8 @@ class Machine(Calls):
 
     def digest(self):
         """The digest of shared memory."""
-        kept = tuple((page, data) for page, data in self.shared.items() if data is not ZEROS)
-        key = len(self.shared), kept
+        nonzero = tuple((page, data) for page, data in self.shared.items() if data is not ZEROS)
+        key = len(self.shared), nonzero
         if key not in digests:
             digests[key] = hashlib.sha256(b"".join(self.shared[page] for page in sorted(self.shared))).hexdigest()
         return digests[key]
@@ -105,10 +105,10 @@ class Machine(Calls):
     def make(self, number):
         """One step of a thread, which is executed."""
         self.permit(number)
-        self.lay(self.execute(number))
+        self.apply(self.execute(number))
 
-    def lay(self, record):
-        """One step by a record: its bytes are stored, and its call is done."""
+    def apply(self, record):
+        """Makes a step by a record: stores its bytes, and does its call."""
         thread, put = self.threads[record.thread], self.put_bytes(record)
         for page, stored in record.stores.items():
             self.shared[page] = over(self.shared[page], *stored)

@@ -109,13 +109,13 @@ def full_pages(elf, pages, spare):
 
 def memo_of(elf, data, fuel, limit, records, version=2):
     """The memo of a run that has these records."""
-    pool, spelled = {}, []
+    pool, encoded = {}, []
     for one in records:
         reads = [(page, pool.setdefault(content, len(pool))) for page, content in one.reads.items()]
         stores = [word(page) + mask.to_bytes(512, "little") + stored for page, (mask, stored) in one.stores.items()]
         start, finish = (b"".join(map(word, registers)) for registers in (one.start, one.finish))
-        spelled.append(record(start, finish, reads, stores, one.thread, one.end, one.count))
-    return sealed(body(elf, pool, spelled, data, fuel, limit, version=version))
+        encoded.append(record(start, finish, reads, stores, one.thread, one.end, one.count))
+    return sealed(body(elf, pool, encoded, data, fuel, limit, version=version))
 
 
 def numbers(data):

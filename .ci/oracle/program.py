@@ -1,4 +1,4 @@
-"""How the scripts find files, run the program, and say what they found."""
+"""How the scripts find files, run the program, and report what they found."""
 import os
 import subprocess
 
@@ -26,7 +26,7 @@ def written(folder, name, data):
 
 
 def ran(*words, folder=None, seconds=SECONDS):
-    """The status of the program, what it prints, and what it complains of; no status if it takes too long."""
+    """The status of the program, what it prints, and its standard error; no status if it takes too long."""
     try:
         done = subprocess.run([PROGRAM, *map(str, words)], cwd=folder, stdin=subprocess.DEVNULL, capture_output=True,
                               timeout=seconds, check=False)

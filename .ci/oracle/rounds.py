@@ -32,50 +32,50 @@ class Judge:
 
     def refuse(self, printed, data, number=None):
         """What is wrong with a report, as a round on this input behind those before it."""
-        told = [] if number in (None, printed.number) else [f"it has the number {printed.number}"]
+        faults = [] if number in (None, printed.number) else [f"it has the number {printed.number}"]
         if len(printed.by) != self.workers or sum(printed.by) != printed.steps:
-            told.append(f"its shares are {printed.by}, of {self.workers} workers and {printed.steps} steps")
+            faults.append(f"its shares are {printed.by}, of {self.workers} workers and {printed.steps} steps")
         machine = self.start(data)
         reached = self.past.reached(changed_pages(machine, self.start(self.data)) if self.machine else set())
         wanted = sum(reached) if self.reach else None
         if printed.reached != wanted:
-            told.append(f"reached is {printed.reached}, and should be {wanted}")
-        told += self.watched(printed) + self.made(machine, printed) + self.compared(machine, printed)
+            faults.append(f"reached is {printed.reached}, and should be {wanted}")
+        faults += self.watched(printed) + self.made(machine, printed) + self.compared(machine, printed)
         if self.machine is not None and self.machine.fuel == self.fuel:
-            told += self.bounded(machine, printed, reached) if self.step is execute else []
+            faults += self.bounded(machine, printed, reached) if self.step is execute else []
             if self.data == data and self.machine.limit == self.limit:
-                told += self.repeated(printed)
+                faults += self.repeated(printed)
         if self.workers == 1:
-            told += self.alone(printed, data)
+            faults += self.alone(printed, data)
         self.begin_behind(machine, data)
-        return told
+        return faults
 
     def watched(self, printed):
         """What is wrong with the numbers that were read of the round's progress."""
         numbers = printed.progress
         if (numbers is not None) != self.progress:
-            return ["its progress is told, and isn't asked for" if numbers else "its progress isn't told"]
+            return ["it has a line `progress`, which isn't wanted" if numbers else "it has no line `progress`"]
         if not self.progress:
             return []
         rises = len(numbers) <= 1025 and all(one < other for one, other in zip(numbers, numbers[1:]))
-        told = [] if rises else ["its progress doesn't rise"]
+        faults = [] if rises else ["its progress doesn't rise"]
         if numbers[-1:] != [printed.steps] or self.workers == 1 and len(numbers) > 1:
-            told.append(f"its progress ends in {numbers[-3:]}, of {printed.steps} steps")
-        return told
+            faults.append(f"its progress ends in {numbers[-3:]}, of {printed.steps} steps")
+        return faults
 
     def made(self, machine, printed):
         """Makes the schedule entry by entry, and says what isn't permitted, or marked wrongly."""
-        told = []
+        faults = []
         for place, (thread, mark) in enumerate(printed.schedule):
             try:
                 machine.permit(thread)
             except Impossible as why:
-                return told + [f"entry {place}: {why}"]
+                return faults + [f"entry {place}: {why}"]
             wanted = self.step(machine, self.past, thread)
             if mark != wanted:
                 fits = "fits" if wanted == "=" else "does not fit"
-                told.append(f"entry {place} of thread {thread} has the mark {mark}, and its record {fits}")
-        return told if machine.ended is not None else told + ["its schedule isn't complete"]
+                faults.append(f"entry {place} of thread {thread} has the mark {mark}, and its record {fits}")
+        return faults if machine.ended is not None else faults + ["its schedule isn't complete"]
 
     @staticmethod
     def compared(machine, printed):
@@ -84,7 +84,7 @@ class Judge:
         rows = (("end", end_text(printed.end), machine.ended), ("steps", printed.steps, len(machine.steps)),
                 ("memory", printed.memory, machine.digest()), ("output", printed.output, machine.output),
                 ("instructions", printed.instructions, sum(executed)), ("executed", printed.executed, len(executed)))
-        return [f"{name} is {said}, and should be {right}" for name, said, right in rows if said != right]
+        return [f"{name} is {found}, and should be {right}" for name, found, right in rows if found != right]
 
     def bounded(self, machine, printed, reached):
         """Whether a step was executed that isn't reached, where each that was does the same work as the old one of its
@@ -101,10 +101,10 @@ class Judge:
 
     def repeated(self, printed):
         """What isn't as it has to be of a round without an edit."""
-        told = [] if all(mark == "=" for _, mark in printed.schedule) else ["a round without an edit executes"]
+        faults = [] if all(mark == "=" for _, mark in printed.schedule) else ["a round without an edit executes"]
         if [thread for thread, _ in printed.schedule] != [step.record.thread for step in self.past.steps]:
-            told.append("a round without an edit has another schedule than the round before")
-        return told
+            faults.append("a round without an edit has another schedule than the round before")
+        return faults
 
     def alone(self, printed, data):
         """Whether one worker made the schedule that it picks."""
@@ -124,7 +124,7 @@ def end_of(text):
 
 
 def report_of(machine, schedule, shares=None, number=0, **more):
-    """The report of a round that a machine made, by one worker where no shares are said."""
+    """The report of a round that a machine made, by one worker if no shares are given."""
     counts = [step.record.count for step, (_, mark) in zip(machine.steps, schedule) if mark == "+"]
     steps, executed = len(schedule), len(counts)
     return reports.Round(number, end_of(machine.ended), steps, steps - executed, executed, sum(counts),

@@ -1,5 +1,5 @@
 """What the program has to answer to a memo, true or not: the status, the printed bytes, and the text on standard error.
-The records are laid on the machine, one behind the other; a false one that fits is repeated."""
+The machine applies the records, one behind the other; a false one that fits is repeated."""
 import memos
 
 from . import audits, reasons
@@ -24,7 +24,7 @@ def followed(memo):
     for place, record in enumerate(memo.records):
         if machine.ended is not None or not machine.is_ready(record.thread) or not machine.fits(record.thread, record):
             raise Refused(f"Incoherent {place}")
-        machine.lay(record)
+        machine.apply(record)
     if machine.ended is None:
         raise Refused(f"Incoherent {len(memo.records)}")
     return machine

@@ -1,5 +1,5 @@
-"""Guests of whose memos the program is asked something: each has a memo by one worker, and one by four, whose schedule
-is that of the printed report."""
+"""Queries of memos: each guest has a memo by one worker, and one by four, whose schedule is that of the printed
+report."""
 import multiprocessing
 import os
 import random
@@ -27,12 +27,12 @@ class Case:
     fuel: int = FUEL
     limit: int = STEPS
     lists: list = ()
-    told: list = field(default_factory=list)
+    faults: list = field(default_factory=list)
     right: int = 0
 
     def count(self, what, fault):
         if fault:
-            self.told.append(f"{what}: {fault}")
+            self.faults.append(f"{what}: {fault}")
         else:
             self.right += 1
 
@@ -54,8 +54,8 @@ class Case:
             except (reports.NotReports, Impossible) as why:
                 self.count(f"the run by {workers}", f"its report can't be replayed: {why}")
 
-    def ask(self, what, wanted, *words):
-        """Asks the program something, which should be answered with status 0 and this text."""
+    def query(self, what, wanted, *words):
+        """Makes a query, which the program should answer with status 0 and this text."""
         status, printed, _ = ran(*words)
         lines = zip(printed.decode(errors="replace").split("\n"), wanted.split("\n"))
         pair = next((pair for pair in lines if pair[0] != pair[1]), None)
@@ -76,11 +76,11 @@ def cases(count, seed, lists, draw_lists):
 
 
 def main(compare, cases_of):
-    """The status of a script: `compare` asks all that is asked of a case, and `cases_of` has the cases by the script's
+    """The status of a script: `compare` makes all queries of a case, and `cases_of` has the cases by the script's
     words: how many random guests there are, and the first one's seed."""
     count = int(sys.argv[1]) if len(sys.argv) > 1 else GUESTS
     seed = int(sys.argv[2]) if len(sys.argv) > 2 else 0
     if program.is_missing():
         return 1
     with multiprocessing.Pool() as pool:
-        return program.count((case.name, case.told, case.right) for case in pool.imap(compare, cases_of(count, seed)))
+        return program.count((case.name, case.faults, case.right) for case in pool.imap(compare, cases_of(count, seed)))
