@@ -15,7 +15,7 @@ MACHINE_PAGES = 769  # of each guest: the input's header, the input and the stac
 
 
 def environment():
-    """What `./ithreads` tells the C library: its way of taking memory, which tools/launch names."""
+    """The environment of `./ithreads`, in which tools/launch sets how the C library takes memory."""
     with open(os.path.join(ROOT, "tools/launch")) as file:
         return {**os.environ, "GLIBC_TUNABLES": re.search(r'GLIBC_TUNABLES="([^"$]+)', file.read())[1]}
 
@@ -26,12 +26,12 @@ ENVIRONMENT = environment()
 def once(folder, words):
     """The processor seconds and the peak KiB of one run, whose report goes to the file `report` of a folder.
 
-    The peak is told by `time`: what the system tells of a process is never less than what began it took, and Python
-    takes more than the program does in a short run."""
+    `time` measures the peak: the system's figure for a process is never less than that of the process which started it,
+    and Python takes more than the program does in a short run."""
     peak = os.path.join(folder, "peak")
     with open(os.path.join(folder, "report"), "wb") as report:
-        told_by = ["time", "-q", "-f", "%M", "-o", peak]
-        child = subprocess.Popen([*told_by, PROGRAM, *words], stdin=subprocess.DEVNULL, stdout=report, env=ENVIRONMENT)
+        timer = ["time", "-q", "-f", "%M", "-o", peak]
+        child = subprocess.Popen([*timer, PROGRAM, *words], stdin=subprocess.DEVNULL, stdout=report, env=ENVIRONMENT)
         _, status, usage = os.wait4(child.pid, 0)
     if status:
         sys.exit(f"{' '.join(words)}: status {os.waitstatus_to_exitcode(status)}")
