@@ -31,8 +31,8 @@ FAILURES = {  # ithreads' statuses; its own line says which file it is
 }
 
 
-class Words(argparse.ArgumentParser):
-    """The words of a tool that ends as a guest did: wrong ones have a status that isn't taken for a guest's."""
+class Parser(argparse.ArgumentParser):
+    """The command line of a tool that ends as a guest did: a wrong one has a status that isn't taken for a guest's."""
 
     def __init__(self, tool, **how):
         super().__init__(allow_abbrev=False, formatter_class=argparse.RawDescriptionHelpFormatter, **how)
