@@ -224,10 +224,10 @@ def check_long_pair(checks, what, pair, count):
     if count == 1:
         checks.expect(f"{what}: the list is that which is printed", one[0] == 0 and texts == [one[1]])
     else:
-        shortest = int(re.search(r"has ([0-9,]+) bytes", one[2]).group(1).replace(",", "")) if one[0] == 1 else 0
-        most = shortest + 20 * (count - 1)  # a line is begun once more for each list
+        shortest_length = int(re.search(r"has ([0-9,]+) bytes", one[2]).group(1).replace(",", "")) if one[0] == 1 else 0
+        most = shortest_length + 20 * (count - 1)  # a line is begun once more for each list
         checks.expect(f"{what}: no list is printed, and several take few bytes more",
-                      not one[1] and shortest - count <= sum(map(len, texts)) <= most)
+                      not one[1] and shortest_length - count <= sum(map(len, texts)) <= most)
     fresh, later = program("run", GUEST, files[1]), program("run", GUEST, files[0], *lists)
     checks.expect(f"{what}: the last round is as the run on the new file",
                   fresh[0] == later[0] == 0 and last_round(b"\n" + fresh[1]) == last_round(later[1]))

@@ -284,12 +284,12 @@ def check_functions(checks):
     status, drawn, errors = tool("timeline", checks.file("reports", printed), "--memo", memo, "--symbols", elf)
     if checks.expect(f"timeline by functions: {status} {errors}", status == 0):
         for one, kind in zip(rounds_of(drawn), ("0 reused, {} executed", "{} reused, 0 executed")):
-            titles = [title for _, _, title, *_ in boxes_of(one)]
+            box_titles = [title for _, _, title, *_ in boxes_of(one)]
             names = [text.text for text in one.iter(f"{NAMESPACE}text") if text.get("class") == "call"]
             right = all(f": {kind.format(count)}\n" in title and f"\nin: {count} {name}\n" in title
-                        for title, (name, count) in zip(titles, STEPS.items()))
-            checks.expect(f"timeline by functions: the boxes are {titles}, and have the names {names}",
-                          right and names == list(STEPS) and len(titles) == len(STEPS))
+                        for title, (name, count) in zip(box_titles, STEPS.items()))
+            checks.expect(f"timeline by functions: the boxes are {box_titles}, and have the names {names}",
+                          right and names == list(STEPS) and len(box_titles) == len(STEPS))
     for more, wanted in ((("--symbols", elf), "usage"), (("--memo", memo, "--symbols", PAIR[0]), "no symbol table")):
         status, _, errors = ran_whole(str(ROOT / "tools/timeline"), str(checks.folder / "reports"), *map(str, more))
         checks.expect(f"timeline {more}: {status} {errors}", status == 2 and wanted in errors)
@@ -402,8 +402,9 @@ def check_words(checks):
         checks.expect(f"timeline {words}: {status} {errors}", status == wanted and not drawn and begun in errors)
     noted = checks.file("noted", WHY.replace("was 7 by start\n", "was 7 by start\n    it is <odd> & \"so\"\n").encode())
     status, drawn, errors = tool("timeline", file, "--why", noted)
-    titles = [title for _, _, title, *_ in boxes_of(rounds_of(drawn)[1])] if status == 0 else ["", "", "", ""]
-    checks.expect(f"timeline with notes: {errors} {titles[3]}", titles[3].endswith('by start\nit is <odd> & "so"'))
+    box_titles = [title for _, _, title, *_ in boxes_of(rounds_of(drawn)[1])] if status == 0 else ["", "", "", ""]
+    checks.expect(f"timeline with notes: {errors} {box_titles[3]}",
+                  box_titles[3].endswith('by start\nit is <odd> & "so"'))
     status, drawn, errors = tool("timeline", file, "--memo", memo, "--why", why)
     right = status == 0 and b"5 instructions\nreads 00010000" in drawn
     checks.expect(f"timeline without a trace: {status} {errors}", right)
