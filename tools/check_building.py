@@ -35,7 +35,7 @@ library isa_spec: modules loaded=148 checked=0
 logic=proved functions=42 sum=dac8208d650f15bf native=nat,char,string
 rt: {0} proved
 """
-KEPT = "rt: {0} is kept: an earlier run on this machine proved the same files over the same libraries\n"
+CACHED = "rt: {0} is kept: an earlier run on this machine proved the same files over the same libraries\n"
 TESTS = "rt: {0}: its tests are proved\n"
 REFUSED = "== {0}\nfn {0}::first: not proved\nerror: {0} is refused\nrt: {0} NOT PROVED\n"
 
@@ -112,8 +112,8 @@ def check(checks):
     each = [PROVED.format(name) for name in names]
     wanted = [f"ithreads: proved {name} ({number} of {many})" for number, name in enumerate(names, 1)]
     check_built(checks, "all is proved", "".join(each) + end, wanted)
-    kept = "".join(KEPT.format(name) for name in names[:-1])
-    check_built(checks, "all but one were proved", kept + TESTS.format(names[0]) + each[-1] + end, wanted)
+    cached = "".join(CACHED.format(name) for name in names[:-1])
+    check_built(checks, "all but one were proved", cached + TESTS.format(names[0]) + each[-1] + end, wanted)
     wait = f"rt: {names[0]}: another run on this machine is proving the same; waiting for it\n"
     check_built(checks, "another rt is there", wait + "".join(each) + end, [wait.strip().replace("rt", "ithreads", 1), *wanted])
     failed = f"{many - 1} passed, 1 failed\n"
