@@ -102,7 +102,7 @@ def step_text(step):
     lines += [None if step.function is None else f"in {step.function}"]
     lines += [None if step.count is None else f"{step.count:,} instructions"]
     lines += [None if step.reads is None else f"reads {listed(step.reads)}; writes {listed(step.writes)}"]
-    lines += [None if step.reason is None else f"executed, since: {step.reason}", *step.notes, *step.lies]
+    lines += [None if step.reason is None else f"executed, since: {step.reason}", *step.notes, *step.falsehoods]
     return "\n".join(line for line in lines if line)
 
 
@@ -252,7 +252,7 @@ class Drawing:
         for kind, at, height in (("reused", y, BOX), ("executed", y + BOX - high, high)):
             if height and (kind == "executed" or executed < len(box.steps)):
                 made += element("rect", "", **{"class": kind}, x=box.left, y=at, width=width, height=height)
-        if any(step.lies for step in box.steps):
+        if any(step.falsehoods for step in box.steps):
             made += element("rect", "", **{"class": "false"}, x=box.left, y=y, width=width, height=BOX)
         name = box.name()
         if name and width > 5.9 * len(name) + 4:
@@ -328,7 +328,7 @@ class Drawing:
         return f'<g class="round" data-number="{self.report.number}">\n{"".join(self.parts(column))}</g>\n'
 
     def parts(self, column):
-        """The parts of the round, what lies below first."""
+        """The parts of the round, the lowest first."""
         yield label(MARGIN, self.top + 14, heading(self.report), "head")
         yield from self.lane_lines()
         lines = len(self.steps) <= FOLDED

@@ -56,7 +56,7 @@ class Step:
     reason: str | None = None
     notes: list = field(default_factory=list)  # what stands behind the reason
     stored_by: int | None = None  # the step that stored what it was executed for
-    lies: list = field(default_factory=list)  # what is false in the memo's record of it
+    falsehoods: list = field(default_factory=list)  # what is false in the memo's record of it
     races: list = field(default_factory=list)  # the later steps that it races with, each with the page and who writes
 
 
@@ -168,10 +168,10 @@ class Rounds:
         step.call, step.text = end_name(end), step.text or end_name(end)
         step.count, step.reads, step.writes = int(count), pages(reads), pages(writes)
 
-    def add_lies(self, number, place, lines):
+    def add_falsehoods(self, number, place, lines):
         """What is false in the record of the step at a place, in the memo of a round."""
         if place < len(self.steps.get(number, [])):
-            self.steps[number][place].lies = lines
+            self.steps[number][place].falsehoods = lines
 
     def add_trace(self, number, text):
         """What `./trace` says of the schedule of a round."""

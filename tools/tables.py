@@ -21,7 +21,7 @@ class Table:
         self.threads = sorted({step.thread for step in steps})
         self.name = max(len(name_of(step)) for step in steps)
         self.width = max(len(f"thread {self.threads[-1]}"), self.name + 2) + BETWEEN
-        self.has_reasons = any(step.reason or step.lies for step in steps)
+        self.has_reasons = any(step.reason or step.falsehoods for step in steps)
 
     def columns(self):
         return self.width * len(self.threads)
@@ -44,7 +44,7 @@ class Table:
         if place >= len(self.steps):
             return ""
         step = self.steps[place]
-        return "; ".join([step.reason] * bool(step.reason) + [line.strip() for line in step.lies])
+        return "; ".join([step.reason] * bool(step.reason) + [line.strip() for line in step.falsehoods])
 
 
 def blocks(made, columns):

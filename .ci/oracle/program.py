@@ -36,7 +36,7 @@ def ran(*words, folder=None, seconds=SECONDS):
 
 
 def is_missing():
-    """Whether the program isn't built, and can't be. If it isn't yet, it is built here: the word asks for no run."""
+    """Whether the program isn't built, and can't be. If it isn't yet, it is built here: --help itself runs nothing."""
     missing = ran("--help", seconds=None)[0] == 125
     if missing:
         print("the program isn't built, and can't be\n0 passed, 1 failed")
