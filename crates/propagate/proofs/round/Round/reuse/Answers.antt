@@ -1,16 +1,18 @@
 -- Answers to the goals that the check of `Round::reuse` leaves open.
-use Rattle.std.proofs.Common.{◌≡◌, ◌<◌, ◌≤◌, ◌+◌, ℕ, suc, length, eqb, not, Bool, true, cond, List, [], ◌∷◌, ◌++◌, Option, Some, None, Box, Vec, is_none, is_some, option_map, refl, add-one, ap, sym, subst, ◌∙◌, arith}
-use Rattle.std.proofs.lemmas.Bool.{and_parts}
+use Rattle.std.proofs.Common.{◌≡◌, ◌<◌, ◌+◌, ℕ, suc, length, eqb, not, Bool, true, cond, List, [], ◌∷◌, ◌++◌, Option, Some, None, Box, Vec, is_none, option_map, refl, add-one, ap, sym, subst, ◌∙◌}
+use Rattle.std.proofs.lemmas.Bool.{and_parts, false≢true}
 use Rattle.std.specs.Arc.{arc_value}
 use Rattle.std.specs.Global.{Global}
 use Rattle.std.specs.Prelude.{IfSome}
 use Rattle.std.specs.List.{slice_get}
 use Rattle.thunk_spec.specs.Record.{Record}
 use Rattle.round_spec.specs.declared.events.Event.TheVariants.{Reuse}
-use Rattle.round_spec.specs.Marks.{record_for}
-use Rattle.round_spec.specs.Rounds.{RoundState, can_reuse, happens}
+use Rattle.round_spec.specs.Marks.{record_for, is_fitting, fits_next}
+use Rattle.round_spec.specs.Rounds.{RoundState, can_begin, can_reuse, happens}
 use Rattle.round_spec.specs.Due.{place_in}
+use Rattle.round_spec.proofs.Happening.{CanBegin, can_begin-parts}
 use Rattle.machine_spec.specs.Step.{fits}
+use Rattle.machine_spec.proofs.Harts.{ready-below}
 use Rattle.history_spec.specs.History.{History}
 use Rattle.history_spec.specs.Facts.{Fact}
 use Rattle.propagate.specs.declared.versions.Versions.{Versions}
@@ -132,6 +134,32 @@ undone c t picked same room_is =
       picked = picked;
     }) same
     ∙ room c picked room_is
+
+-- the thread exists, and its record is there
+
+exists : (w : RoundState) (t : ℕ) → can_reuse w t ≡ true → t < length w.machine.harts
+exists w t can =
+    let begins : CanBegin w t = can_begin-parts w t (and_parts (can_begin w t) (fits_next w.past w.machine t) can).0 in
+    ready-below w.machine.harts t begins.ready
+
+never-none : (w : RoundState) (t : ℕ) → can_reuse w t ≡ true → record_for w.past w.machine t ≡ None → ⊥
+never-none w t can none =
+    false≢true
+    (sym (ap (is_fitting w.machine) none) ∙ (and_parts (can_begin w t) (fits_next w.past w.machine t) can).1)
+
+pub next_record-requires : goal.next_record-requires
+next_record-requires c = exists c.args.self.now c.args.t c.requires
+
+pub unreachable-requires : goal.unreachable-requires
+unreachable-requires c =
+    never-none c.args.self.now c.args.t c.requires
+    (sym c.next_record.ensures ∙ ap (option_map (λ r. arc_value r.now)) c.in-None.is)
+
+pub is_next-next-requires : goal.is_next-next-requires
+is_next-next-requires c = exists c.args.self.now c.args.t c.requires
+
+pub place-place-requires : goal.place-place-requires
+place-place-requires c = exists c.args.self.now c.args.t c.requires
 
 pub returns-in_err-rec-in-Some : goal.returns-in_err-rec-in-Some
 returns-in_err-rec-in-Some c =
