@@ -1,10 +1,13 @@
 -- Answers to the goals that the check of `Round::take` leaves open.
-use Rattle.std.proofs.Common.{◌≡◌, true, length, set, option_map, Result, Ok, Err, IfOk, IsErr, refl, ap, sym, subst, ◌∙◌, arith}
+use Rattle.std.proofs.Common.{◌≡◌, ◌<◌, ℕ, true, length, set, option_map, Result, Ok, Err, IfOk, IsErr, refl, ap, sym, subst, ◌∙◌, arith}
 use Rattle.std.proofs.lemmas.Grind.{common_steps}
 use Rattle.std.specs.Arc.{arc_value}
+use Rattle.machine_spec.specs.Machine.{hart_of, is_ready}
 use Rattle.round_spec.specs.declared.events.Event.TheVariants.{Take}
 use Rattle.round_spec.specs.Rounds.{RoundState, can_take, happens}
 use Rattle.round_spec.proofs.Conditions.{happens-take}
+use Rattle.propagate.specs.Consistency.{IsValid}
+use Rattle.propagate.proofs.Appending.{below-32, take-ready}
 use Rattle.propagate.proofs.Keeping.{valid_consistent, kept-happens, knows-found}
 use Rattle.propagate.proofs.Making.{goes-nowhere, kept-alike, unless_ok, on_err}
 use Rattle.propagate.proofs.Alike.{as-before-same}
@@ -16,6 +19,11 @@ use Rattle.propagate.proofs.round.Round.take.Goals as goal
 unless_job : {T E : Type 0} (r : Result T E) (P : T → Type 0) → IsErr r → IfOk r P
 unless_job (Ok x) P failed = absurd (cc)
 unless_job (Err e) P failed = tt
+
+pub start_of-requires : goal.start_of-requires
+start_of-requires c =
+    subst (λ (w : RoundState). is_ready (hart_of w.machine c.args.t).status ≡ true) (sym c.self.view_is)
+    (take-ready c.args.self.now c.args.t c.requires)
 
 pub returns-in_err-job : goal.returns-in_err-job
 returns-in_err-job c =
@@ -41,6 +49,19 @@ returns-in_err-find_facts c =
       err = on_err c.from_residual-in_err-find_facts.result _ c.self.view_is;
       valid = valid_consistent _ _ _ _ _ _ c.self.view_is c.self.invariant;
     }
+
+taken-below : (w : RoundState) (t : ℕ) → IsValid w → can_take w t ≡ true → t < 32
+taken-below w t valid can = below-32 w.machine t valid.in_order.whole (take-ready w t can)
+
+pub bounds-self-inside-from : goal.bounds-self-inside-from
+bounds-self-inside-from c =
+    subst (λ t. t < 32) (sym c.from.ensures)
+    (taken-below c.args.self.now c.args.t (valid_consistent _ _ _ _ _ _ c.self.view_is c.self.invariant) c.requires)
+
+pub bounds-self-inside-from-2 : goal.bounds-self-inside-from-2
+bounds-self-inside-from-2 c =
+    subst (λ t. t < 32) (sym c.from-2.ensures)
+    (taken-below c.args.self.now c.args.t (valid_consistent _ _ _ _ _ _ c.self.view_is c.self.invariant) c.requires)
 
 pub returns-clause-ok : goal.returns-clause-ok
 returns-clause-ok c = rw (happens-take c.args.self.now c.args.t c.requires) (grind (arith, common_steps))
