@@ -30,7 +30,7 @@ pub record IsPartWay (left : ℕ) (after begun w : RoundState) (before now compa
   pub spares : Spares compared_before begun compared w
   pub compares : compared_before ≤ compared
 
--- What is known of how many turns so many workers executed for a round: with one worker, those of the executed steps;
+-- What is known of how many turns this many workers executed for a round: with one worker, those of the executed steps;
 -- without an edit, none; else any number.
 pub record IsCostOf (workers : ℕ) (s : Setup) (before : Option History) (w : RoundState) (turns : ℕ) : Type 0 where
   pub alone : workers ≡ 1 → turns ≡ executed_by w

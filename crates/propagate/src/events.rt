@@ -170,7 +170,7 @@ impl Round {
     ///
     /// # Errors
     ///
-    /// An error if the host's memory ran out.
+    /// An error if the frame or the thread's view has as many holders as can be counted.
     pub(super) fn start(&self, t: u8) -> Result<Job, AllocError>
         requires { can_take self.now t ≡ true }
         ensures job { IfOk result (λ job. IsJobOf self.now.machine t job) }
