@@ -91,9 +91,6 @@ impl Issuer {
             return false;
         }
         self.log.agree(ticket);
-        match self.last[usize::from(t)] {
-            Some(number) => number == ticket.number,
-            None => false,
-        }
+        self.last[usize::from(t)] == Some(ticket.number)
     }
 }
