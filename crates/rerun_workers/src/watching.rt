@@ -40,6 +40,10 @@ pub struct WatchedRound {
 impl WatchedRound {
     /// The round of a setup before its first step, based on a history if there is one, and a counter that has counted
     /// none of its steps.
+    ///
+    /// # Errors
+    ///
+    /// An error if the host's memory ran out.
     pub(super) fn new(
         alloc: Global,
         setup: Setup,
@@ -83,7 +87,7 @@ impl Counter {
     ///
     /// # Errors
     ///
-    /// An error if the host's memory ran out.
+    /// An error if the word has as many holders as can be counted.
     pub(super) fn split<J: Naming>(&mut self) -> Result<Watch<J>, AllocError>
         requires { self.old.writer.table ≡ J.table }
         ensures added { self.new.writer.added ≡ self.old.writer.added }
