@@ -102,6 +102,19 @@ pub closed-opening :
 closed-opening w worker_steps turns compared setup past first is by =
     subst (λ (x : RoundState). IsClosed x.setup x.past w worker_steps turns compared) is by
 
+-- what is said of a setup and a history is said of the same
+pub of-same :
+    (P : Setup → Option History → Type 0) (s t : Setup) (p q : Option History) → s ≡ t → p ≡ q → P s p → P t q
+of-same P s t p q setup past says = subst (λ (x : Setup). P x q) setup (subst (P s) past says)
+
+-- a closed round is one of its own setup and history
+pub closed-own :
+    (w : RoundState) (worker_steps : List ℕ) (turns compared : ℕ) (setup : Setup) (past : Option History)
+    → IsClosed setup past w worker_steps turns compared → IsClosed w.setup w.past w worker_steps turns compared
+closed-own w worker_steps turns compared setup past closed =
+    of-same (λ s p. IsClosed s p w worker_steps turns compared) setup w.setup past w.past (sym closed.setup)
+    (sym closed.past) closed
+
 -- the steps of each worker if the first made all
 
 pub first-each :
