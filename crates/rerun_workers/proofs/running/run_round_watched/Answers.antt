@@ -1,13 +1,11 @@
 -- Answers to the goals that the check of `run_round_watched` leaves open.
-use Rattle.std.proofs.Common.{◌≡◌, ℕ, [], ◌∷◌, length, Result, Ok, Err, IfOk, Vec, Option, option_map, is_some, refl, ap, sym, subst, ◌∙◌, arith, rules}
+use Rattle.std.proofs.Common.{◌≡◌, ℕ, [], ◌∷◌, length, Result, Ok, Err, IfOk, Vec, option_map, is_some, refl, ap, sym, subst, ◌∙◌, arith, rules}
 use Rattle.std.specs.Arc.{arc_value}
 use Rattle.std.specs.Global.{Global}
-use Rattle.machine_spec.specs.Setup.{Setup}
-use Rattle.history_spec.specs.History.{History}
 use Rattle.round_spec.specs.Watching.{IsProgress}
 use Rattle.propagate.specs.Executing.{IsCostOf}
 use Rattle.rerun_workers.specs.declared.board.ClosedRound.{ClosedRound}
-use Rattle.rerun_workers.specs.Making.{IsRoundBy, IsClosed, ComparesNone}
+use Rattle.rerun_workers.specs.Making.{IsRoundBy, ComparesNone}
 use Rattle.rerun_workers.proofs.Made.{of-same, closed-own, closed-opening, by-several, cost-several}
 use Rattle.rerun_workers.proofs.running.run_round_watched.Goals as goal
 
