@@ -1,5 +1,5 @@
 -- What stays true of the round under the lock, and of what counts its steps.
-use Rattle.std.proofs.Common.{◌≡◌, ◌+◌, ℕ, length, Option, sym, subst, ◌∙◌, arith}
+use Rattle.std.proofs.Common.{◌≡◌, ◌+◌, ℕ, length, Option, ap, sym, subst, ◌∙◌, arith}
 use Rattle.atomic_table.specs.Seated.{TableId}
 use Rattle.round_spec.specs.Rounds.{RoundState}
 use Rattle.propagate.specs.Committing.{Continues}
@@ -12,6 +12,12 @@ same-length w v on = let same = on.entries in omega (arith, same)
 -- no entry was added
 pub counted_on : (w v : RoundState) (total : ℕ) → Continues 0 w v → length w.schedule ≡ total → length v.schedule ≡ total
 counted_on w v total on counted = same-length w v on ∙ counted
+
+-- one entry was added, and counted
+pub counted_more :
+    (w v : RoundState) (total later : ℕ)
+    → Continues 1 w v → later ≡ total + 1 → length w.schedule ≡ total → length v.schedule ≡ later
+counted_more w v total later on more counted = on.entries ∙ ap (λ n. n + 1) counted ∙ sym more
 
 pub watched_on :
     (w v : RoundState) (table : TableId) (counter : Option Counter)

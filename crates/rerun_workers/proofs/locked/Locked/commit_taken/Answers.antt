@@ -1,8 +1,8 @@
 -- Answers to the goals that the check of `Locked::commit_taken` leaves open.
-use Rattle.std.proofs.Common.{rules, ap, sym, subst, ◌∙◌, Option}
+use Rattle.std.proofs.Common.{◌+◌, ap, sym, subst, ◌∙◌, Option}
 use Rattle.std.specs.Arc.{arc_value}
 use Rattle.machine_spec.specs.Setup.{Setup, first}
-use Rattle.rerun_workers.proofs.Under.{watched_on, watched_more}
+use Rattle.rerun_workers.proofs.Under.{counted_on, counted_more, watched_on, watched_more}
 use Rattle.rerun_workers.proofs.Following.{IsUnder, follows-commit, follows-give_back, follows-given_up}
 use Rattle.logbook.specs.Pages.{Book}
 use Rattle.shared_words.specs.TicketViews.{TicketView}
@@ -29,7 +29,9 @@ commit_run-requires g c =
 pub invariant_of-self : goal.invariant_of-self
 invariant_of-self g c =
     record {
-      counted = search rules;
+      counted =
+          counted_more c.args.self.now.round _ _ _ c.in-Done.ensures.same
+          (c.add.ensures.total ∙ ap (λ n. n + 1) c.audit.ensures.total) c.args.self.now.counted;
       setup = c.in-Done.ensures.same.setup ∙ c.args.self.now.setup;
       past = c.in-Done.ensures.same.past ∙ c.args.self.now.past;
       watched = watched_more c.args.self.now.round _ _ _ _ c.in-Done.ensures.same c.count.ensures.counts c.args.self.now.watched;
@@ -53,7 +55,9 @@ invariant_of-self g c =
 pub invariant_of-self-in-Stale-1 : goal.invariant_of-self-in-Stale-1
 invariant_of-self-in-Stale-1 g c =
     record {
-      counted = search rules;
+      counted =
+          counted_on c.args.self.now.round _ _ c.in-Stale.ensures.same
+          (c.args.self.now.counted ∙ sym c.audit.ensures.total);
       setup = c.in-Stale.ensures.same.setup ∙ c.args.self.now.setup;
       past = c.in-Stale.ensures.same.past ∙ c.args.self.now.past;
       watched = watched_on c.args.self.now.round _ _ _ c.in-Stale.ensures.same c.args.self.now.watched;
@@ -77,7 +81,10 @@ invariant_of-self-in-Stale-1 g c =
 pub invariant_of-self-in-NoMemory : goal.invariant_of-self-in-NoMemory
 invariant_of-self-in-NoMemory g c =
     record {
-      counted = search rules;
+      counted =
+          counted_on c.commit_run.new.round _ _ c.give_up.ensures.same
+          (counted_on c.args.self.now.round _ _ c.in-NoMemory.ensures.same
+          (c.args.self.now.counted ∙ sym c.audit.ensures.total));
       setup = c.give_up.ensures.same.setup ∙ c.in-NoMemory.ensures.same.setup ∙ c.args.self.now.setup;
       past = c.give_up.ensures.same.past ∙ c.in-NoMemory.ensures.same.past ∙ c.args.self.now.past;
       watched = watched_on c.commit_run.new.round _ _ _ c.give_up.ensures.same
