@@ -20,6 +20,9 @@ few : (b : Bool) → bit b ≤ 1
 few true = omega arith
 few false = omega arith
 
+low_byte : (low high n : ℕ) → low < 256 → n ≡ low + 256 * high → (n % 256 ≡ low) × (n / 256 ≡ high)
+low_byte low high n small is = (omega arith, omega arith)
+
 -- The eight first marks are the lowest byte of the number that the marks encode.
 eight : (a b c d e f g h : Bool) (m : List Bool) → let n : ℕ = mask_l (a ∷ b ∷ c ∷ d ∷ e ∷ f ∷ g ∷ h ∷ m) in
     (n % 256 ≡ bit a + 2 * bit b + 4 * bit c + 8 * bit d + 16 * bit e + 32 * bit f + 64 * bit g + 128 * bit h)
@@ -30,7 +33,8 @@ eight a b c d e f g h m = of (bit a) (bit b) (bit c) (bit d) (bit e) (bit f) (bi
     of : (a b c d e f g h r : ℕ) → a ≤ 1 → b ≤ 1 → c ≤ 1 → d ≤ 1 → e ≤ 1 → f ≤ 1 → g ≤ 1 → h ≤ 1
         → let n : ℕ = a + 2 * (b + 2 * (c + 2 * (d + 2 * (e + 2 * (f + 2 * (g + 2 * (h + 2 * r))))))) in
         (n % 256 ≡ a + 2 * b + 4 * c + 8 * d + 16 * e + 32 * f + 64 * g + 128 * h) × (n / 256 ≡ r)
-    of a b c d e f g h r p q s t u v w x = (omega arith, omega arith)
+    of a b c d e f g h r p q s t u v w x =
+        low_byte (a + 2 * b + 4 * c + 8 * d + 16 * e + 32 * f + 64 * g + 128 * h) r _ (omega arith) (omega arith)
 
 byte_is : (i n : ℕ) → byte_at i n ≡ n / 256 ^ i % 256
 byte_is zero n = omega arith
