@@ -13,6 +13,7 @@ pub mod Cohering
 pub mod Sizes
 pub mod Counting
 pub mod Accepting
+pub mod Refusing
 pub mod Setting
 pub mod Ending
 pub mod Aging
