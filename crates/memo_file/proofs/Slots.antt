@@ -1,9 +1,14 @@
--- A page's slot by its number and by its address.
-use Rattle.std.proofs.Common.{◌≡◌, ℕ, suc, ◌+◌, ◌*◌, ◌/◌, ◌^◌, ◌≤◌, Bool, true, false, not, cond, List, [], ◌∷◌, length, refl, ap, ◌∙◌, arith}
-use Rattle.std.specs.Prelude.{◌==◌}
-use Rattle.std.proofs.lemmas.Bool.{ne_eqb}
+-- A page's slot by its number and by its address, and pages that are read or refused by their slot.
+use Rattle.std.proofs.Common.{◌≡◌, ℕ, suc, ◌+◌, ◌*◌, ◌/◌, ◌^◌, ◌<◌, ◌≤◌, ◌⊎◌, Bool, true, false, not, cond, List, [], ◌∷◌, length, Result, Ok, Err, refl, sym, ap, ◌∙◌, arith, inl, inr}
+use Rattle.std.specs.Prelude.{◌==◌, slice_index_or}
+use Rattle.std.specs.Int.{w32}
+use Rattle.std.proofs.lemmas.Bool.{ne_eqb, lt-ltb, le-ltb, le-leb, lt-leb, and_left, and_right}
 use Rattle.memory_spec.specs.Pages.{Mapped, slot_of, AreAddressable}
-use Rattle.memo_spec.specs.Reading.{slot_of_number}
+use Rattle.ith_text.specs.Place.{Place}
+use Rattle.memo_spec.specs.declared.Refusal.{Refusal}
+use Rattle.memo_spec.specs.declared.Refusal.TheVariants.{Field}
+use Rattle.memo_spec.specs.Reader.{number_at}
+use Rattle.memo_spec.specs.Reading.{ReadState, slot_of_number, slot_at, read_page_at, used_after}
 
 flip : (b : Bool) (a : ℕ) → cond b 0 (suc a) ≡ cond (not b) (1 + a) 0
 flip true a = refl
@@ -24,3 +29,61 @@ far (m ∷ pages) n small le =
     let ne : (m.number == n) ≡ false = ne_eqb _ _ (λ e. omega (arith, e, small 0 m (omega arith), le)) in
     let rest = far pages n (λ k d lt. small (suc k) d (omega arith)) le in
     rw ne (omega (arith, rest))
+
+-- ---- a page number
+
+number_is :
+    (pages : List Mapped) (number slot : ℕ) → slot ≡ slot_of pages (number * 4096) → slot_of_number pages number ≡ slot
+number_is pages number slot is = sym (is ∙ slot_of_is pages number)
+
+pub slot_read :
+    (pages : List Mapped) (low number slot : ℕ) (p q : Place)
+    → number_at w32 p ≡ Ok (number, q) → slot ≡ slot_of pages (number * 4096) → low ≤ slot → slot < length pages
+    → slot_at pages low p ≡ Ok (slot, q)
+unfolding slot_at
+slot_read pages low number slot p q read is from below =
+    let at = number_is pages number slot is in
+    let there = slot_of_number pages number in
+    rw (read, le-leb low there (omega arith), lt-ltb there (length pages) (omega arith)) (ap (found q) at)
+  where
+    found : Place → ℕ → Result (ℕ × Place) Refusal
+    found q n = Ok (n, q)
+
+pub slot_refused :
+    (pages : List Mapped) (low number slot : ℕ) (p q : Place)
+    → number_at w32 p ≡ Ok (number, q) → slot ≡ slot_of pages (number * 4096)
+    → (slot < low) ⊎ (length pages ≤ slot)
+    → slot_at pages low p ≡ Err (Field p.taken)
+unfolding slot_at
+slot_refused pages low number slot p q read is (inl before) =
+    rw (read, number_is pages number slot is, and_left _ _ (lt-leb low slot before)) refl
+slot_refused pages low number slot p q read is (inr behind) =
+    rw (read, number_is pages number slot is, and_right _ _ (le-ltb slot (length pages) behind)) refl
+
+-- ---- a read page
+
+pub page_read :
+    (pages : List Mapped) (pool : List (List ℕ)) (s : ReadState) (slot index : ℕ) (p q r : Place)
+    → slot_at pages s.low p ≡ Ok (slot, q) → number_at w32 q ≡ Ok (index, r) → index ≤ s.used → index < length pool
+    → read_page_at pages pool s p
+    ≡ Ok (
+      (
+        record { slot = slot; bytes = slice_index_or pool index [] },
+        record { low = suc slot; used = used_after s.used index },
+      ),
+      r,
+    )
+unfolding read_page_at
+page_read pages pool s slot index p q r at number few within =
+    rw (at, number, le-leb _ _ few, lt-ltb _ _ within) refl
+
+pub page_refused :
+    (pages : List Mapped) (pool : List (List ℕ)) (s : ReadState) (slot index : ℕ) (p q r : Place)
+    → slot_at pages s.low p ≡ Ok (slot, q) → number_at w32 q ≡ Ok (index, r)
+    → (s.used < index) ⊎ (length pool ≤ index)
+    → read_page_at pages pool s p ≡ Err (Field q.taken)
+unfolding read_page_at
+page_refused pages pool s slot index p q r at number (inl many) =
+    rw (at, number, and_left _ _ (lt-leb index s.used many)) refl
+page_refused pages pool s slot index p q r at number (inr beyond) =
+    rw (at, number, and_right _ _ (le-ltb index (length pool) beyond)) refl
