@@ -1,5 +1,5 @@
 -- What a record determines of an address, and the last record of a history.
-use Rattle.std.proofs.Common.{◌≡◌, ◌≢◌, ℕ, zero, suc, ◌<◌, ◌≤◌, ◌/◌, ◌^◌, Bool, true, false, cond, List, [], ◌∷◌, length, take, get_or, Some, refl, sym, ap, ◌∙◌, arith}
+use Rattle.std.proofs.Common.{◌≡◌, ◌≢◌, ℕ, zero, suc, ◌+◌, ◌<◌, ◌≤◌, ◌/◌, ◌^◌, Bool, true, false, cond, List, [], ◌∷◌, length, take, drop, get_or, Option, Some, None, refl, sym, ap, ◌∙◌, arith, eq-eqb}
 use Rattle.std.specs.Prelude.{slice_get, slice_index_or}
 use Rattle.std.specs.List.{count_by}
 use Rattle.std.proofs.lemmas.Bool.{ne_eqb}
@@ -14,7 +14,8 @@ use Rattle.history_spec.specs.History.{History}
 use Rattle.machine_spec.specs.Setup.{map_of}
 use Rattle.page_store.specs.Stored.{delta_in}
 use Rattle.page_store.specs.declared.stored.StoredPage.{StoredPage}
-use Rattle.memo_spec.specs.Old.{ends_at_m, last_ends_at_m, is_before_m, ends_at_lock, last_ends_at_lock, is_before_locks}
+use Rattle.memo_spec.specs.Old.{stored_byte, ends_at_m, last_ends_at_m, is_before_m, ends_at_lock, last_ends_at_lock, is_before_locks}
+use Rattle.memo_file.proofs.WritingPool.{drop_at}
 
 abbrev one : Bool → ℕ
 one mark = cond mark 1 0
@@ -44,6 +45,22 @@ pub stored_at : (d : PageDelta) (s : StoredPage) (k : ℕ) → d ≡ delta_in d.
 stored_at d s k is len within marked =
     let b : d.bytes ≡ chosen s.mask s.page = ap (λ (x : PageDelta). x.bytes) is in
     rw b (chosen_at s.mask s.page k len marked ∙ slice_get-get_or s.page k 0 within)
+
+-- The first of the remaining pages determines the stored byte, or else those after it do.
+pub stored_here :
+    (pages : List PageDelta) (i slot offset : ℕ) (d : PageDelta) (all : Option ℕ)
+    → slice_get pages i ≡ Some d → d.slot ≡ slot → stored_byte (drop i pages) slot offset ≡ all
+    → cond (slice_index_or d.mask offset false) (slice_get d.bytes (count_by (λ mark. mark) (take offset d.mask))) None
+    ≡ all
+stored_here pages i slot offset d all at is so_far =
+    sym (ap (λ ps. stored_byte ps slot offset) (drop_at pages i d at) ∙ rw (eq-eqb d.slot slot is) refl) ∙ so_far
+
+pub stored_later :
+    (pages : List PageDelta) (i slot offset : ℕ) (d : PageDelta) (all : Option ℕ)
+    → slice_get pages i ≡ Some d → d.slot ≢ slot → stored_byte (drop i pages) slot offset ≡ all
+    → stored_byte (drop (i + 1) pages) slot offset ≡ all
+stored_later pages i slot offset d all at other so_far =
+    sym (ap (λ ps. stored_byte ps slot offset) (drop_at pages i d at) ∙ rw (ne_eqb d.slot slot other) refl) ∙ so_far
 
 -- After the last address, no page has its slot.
 pub no_slot : (map : List Mapped) (address : ℕ) → AreAddressable map → 2 ^ 32 ≤ address
