@@ -143,3 +143,10 @@ pub part_fails : {A B : Type 0} (e : ReadError) (r : Result (A × Place) Refusal
     → Fails e (onward r next)
 part_fails errors.NoMemory r next h = tt
 part_fails {A = A} (errors.Refused f) r next h = ap (λ (x : Result (A × Place) Refusal). onward x next) h
+
+-- If what only keeps a part of what was read fails, so does the reading.
+pub kept_fails : {A B : Type 0} (e : ReadError) (r : Result (A × Place) Refusal) (kept : A → B)
+    → Fails e (onward r (λ a. done (kept a))) → Fails e r
+kept_fails errors.NoMemory r kept h = tt
+kept_fails (errors.Refused f) (Ok x) kept h = absurd cc
+kept_fails (errors.Refused f) (Err g) kept h = cc
