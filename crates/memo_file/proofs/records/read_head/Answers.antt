@@ -1,4 +1,4 @@
--- Answers to the goals that the check leaves of `read_head`: the fields before the one that fails were read.
+-- Answers to the goals that the check of `read_head` leaves open: the fields before the one that fails were read.
 use Rattle.std.proofs.Common.{refl}
 use Rattle.std.proofs.lemmas.Result.{err_from_is_err_and}
 use Rattle.memo_spec.specs.Reading.{record_at}
