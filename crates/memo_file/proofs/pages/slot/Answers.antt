@@ -1,5 +1,5 @@
 -- Answers to the goals that the check of `slot` leaves open.
-use Rattle.std.proofs.Common.{◌≡◌, ◌<◌, ◌≤◌, ◌⊎◌, ◌*◌, length, ap, ◌∙◌, inl, inr, arith}
+use Rattle.std.proofs.Common.{◌<◌, ◌≤◌, ◌⊎◌, ◌*◌, length, ap, ◌∙◌, inl, inr, arith}
 use Rattle.memory_spec.specs.Pages.{slot_of}
 use Rattle.memo_file.proofs.Slots.{slot_read, slot_refused}
 use Rattle.memo_file.proofs.pages.slot.Goals as goal
