@@ -5,6 +5,7 @@ use Rattle.ith_text.specs.Place.{Place}
 use Rattle.memo_spec.specs.declared.Refusal.{Refusal}
 use Rattle.memo_spec.specs.Reader.{Reader, onward, done, each, chain, number_at}
 use Rattle.memo_spec.specs.Reading.{registers_at}
+use Rattle.memo_spec.proofs.Formats.{onward_ok, ok_is}
 use Rattle.isa_spec.specs.Registers.{Registers}
 use Rattle.std.specs.Prelude.{slice_index, slice_set}
 use Rattle.std.specs.Int.{w32}
@@ -150,3 +151,18 @@ pub kept_fails : {A B : Type 0} (e : ReadError) (r : Result (A × Place) Refusal
 kept_fails errors.NoMemory r kept h = tt
 kept_fails (errors.Refused f) (Ok x) kept h = absurd cc
 kept_fails (errors.Refused f) (Err g) kept h = cc
+
+-- What keeps a part of what was read.
+pub kept_read : {A B : Type 0} (r : Result (A × Place) Refusal) (kept : A → B) (a : A) (p : Place)
+    → r ≡ Ok (a, p) → onward r (λ x. done (kept x)) ≡ Ok (kept a, p)
+kept_read r kept a p e = rw e refl
+
+pub kept_ok : {A B : Type 0} (r : Result (A × Place) Refusal) (kept : A → B) (b : B) (p : Place)
+    → onward r (λ x. done (kept x)) ≡ Ok (b, p) → (a : A) × (r ≡ Ok (a, p)) × (kept a ≡ b)
+kept_ok {A = A} {B = B} r kept b p e =
+    let x = onward_ok r (λ (a : A). done (kept a)) (b, p) e in
+    let same = ok_is (kept x.0.0, x.0.1) (b, p) x.2 in
+    (x.0.0, x.1 ∙ ap (found x.0.0) (ap (λ (y : B × Place). y.1) same), ap (λ (y : B × Place). y.0) same)
+  where
+    found : A → Place → Result (A × Place) Refusal
+    found a q = Ok (a, q)

@@ -1,10 +1,11 @@
 //! The read pages of a record.
 
-ghost use Rattle.std.specs.Prelude.{◌≡◌, ◌≢◌, ◌<◌, ◌^◌, true, suc, length, map, IfOk, IfErr};
+ghost use Rattle.std.specs.Prelude.{◌≡◌, ◌≢◌, ◌<◌, ◌^◌, true, suc, ℕ, List, length, map, IfOk, IfErr};
 ghost use Rattle.std.specs.Arc.{arc_value};
 ghost use Rattle.memory_spec.specs.Pages.{slot_of, AreAddressable};
 ghost use Rattle.thunk_spec.specs.Ascending.{reads_ascend};
-ghost use Rattle.memo_spec.specs.Reader.{chain};
+ghost use Rattle.thunk_spec.specs.Reads.{ReadPage as Read};
+ghost use Rattle.memo_spec.specs.Reader.{onward, done, chain};
 ghost use Rattle.memo_spec.specs.Reading.{slot_at, read_page_at};
 ghost use Rattle.memo_file.specs.declared.error.ReadError.TheVariants as errors;
 ghost use Rattle.memo_file.specs.Gives.{Gives};
@@ -79,19 +80,21 @@ fn read_page(
     Ok((ReadPage::new(slot, page), used))
 }
 
-/// The next `count` read pages; the least slot of a next one, and how many pages of the pool are used after them.
+/// The next `count` read pages, whose slots ascend, and how many pages of the pool are used after them.
 pub fn read_pages(
     alloc: Global,
     cursor: &mut Cursor,
     sources: &Sources,
     count: u16,
     used: usize,
-) -> Result<(Vec<ReadPage>, usize, usize), ReadError>
+) -> Result<(Vec<ReadPage>, usize), ReadError>
     requires small { AreAddressable sources.now.slots.now }
     ensures ascend { IfOk result (λ x. reads_ascend 0 x.0.items ≡ true) }
-    ensures given { Gives (λ x. ((x.0.items, record { low = x.1; used = x.2 }), cursor.new)) result
+    ensures given { Gives (λ x. ((x.0.items, x.1), cursor.new)) result
+        (onward
         (chain (read_page_at sources.now.slots.now (map arc_value sources.now.pool.now)) count
-        (record { low = 0; used = used }) cursor.old) }
+        (record { low = 0; used = used }) cursor.old)
+        (λ x. done {A = List Read × ℕ} (x.0, x.1.used))) }
 {
     let mut pages = Vec::new(alloc);
     let mut low = 0;
@@ -102,5 +105,5 @@ pub fn read_pages(
         used = now;
         pages.push(page)?;
     }
-    Ok((pages, low, used))
+    Ok((pages, used))
 }

@@ -106,9 +106,9 @@ fn record(
 {
     let head = read_head(cursor, sources.fuel)?;
     let read_count = half(cursor)?;
-    let (reads, _low, used) = read_pages(alloc, cursor, sources, read_count, before.used())?;
+    let (reads, used) = read_pages(alloc, cursor, sources, read_count, before.used())?;
     let delta_count = half(cursor)?;
-    let (delta, _low) = stored_pages(alloc, cursor, sources.slots, delta_count)?;
+    let delta = stored_pages(alloc, cursor, sources.slots, delta_count)?;
     let kept = Kept {
         reads: Reads::new(reads),
         delta: Delta::new(delta),

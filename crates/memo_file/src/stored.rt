@@ -6,7 +6,7 @@ ghost use Rattle.memory_spec.specs.Pages.{zero_page, AreAddressable};
 ghost use Rattle.memory_spec.specs.Workspace.{no_marks};
 ghost use Rattle.thunk_spec.specs.Delta.{chosen, is_stored};
 ghost use Rattle.thunk_spec.specs.Ascending.{deltas_ascend};
-ghost use Rattle.memo_spec.specs.Reader.{chain};
+ghost use Rattle.memo_spec.specs.Reader.{onward, done, chain};
 ghost use Rattle.memo_spec.specs.Reading.{marks_of, mask_at, stored_page_at};
 ghost use Rattle.memo_file.specs.Filling.{Filled};
 ghost use Rattle.memo_file.specs.Gives.{Gives};
@@ -133,17 +133,17 @@ fn stored_page(
     Ok(PageDelta::new(alloc, slot, stored)?)
 }
 
-/// The next `count` stored pages, whose slots ascend, and the least slot of a next one.
+/// The next `count` stored pages, whose slots ascend.
 pub fn stored_pages(
     alloc: Global,
     cursor: &mut Cursor,
     slots: &PageMap,
     count: u16,
-) -> Result<(Vec<PageDelta>, usize), ReadError>
+) -> Result<Vec<PageDelta>, ReadError>
     requires small { AreAddressable slots.now }
-    ensures ascend { IfOk result (λ x. deltas_ascend 0 x.0.items ≡ true) }
-    ensures given { Gives (λ x. ((x.0.items, x.1), cursor.new)) result
-        (chain (stored_page_at slots.now) count 0 cursor.old) }
+    ensures ascend { IfOk result (λ v. deltas_ascend 0 v.items ≡ true) }
+    ensures given { Gives (λ v. (v.items, cursor.new)) result
+        (onward (chain (stored_page_at slots.now) count 0 cursor.old) (λ x. done x.0)) }
 {
     let mut pages = Vec::new(alloc);
     let mut low = 0;
@@ -152,5 +152,5 @@ pub fn stored_pages(
         low = page.slot() + 1;
         pages.push(page)?;
     }
-    Ok((pages, low))
+    Ok(pages)
 }

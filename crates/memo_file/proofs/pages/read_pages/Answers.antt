@@ -3,17 +3,18 @@ use Rattle.std.proofs.Common.{◌≡◌, map, arith, suc, ◌+◌}
 use Rattle.std.specs.Arc.{arc_value}
 use Rattle.std.proofs.lemmas.Result.{err_from_is_err_and}
 use Rattle.memo_spec.specs.Reading.{read_page_at}
-use Rattle.memo_file.proofs.Loops.{goes_on, ends, is_done}
+use Rattle.memo_file.proofs.Loops.{goes_on, ends, is_done, part_fails, kept_read}
 use Rattle.memo_file.proofs.Ascends.{chain_ascends}
 use Rattle.memo_file.proofs.pages.read_pages.Goals as goal
 
 pub returns-in_err-page-clause-given : goal.returns-in_err-page-clause-given
 returns-in_err-page-clause-given c =
     let p = err_from_is_err_and c.from_residual.result c.from_residual.ensures.1 in
-    rw (p.1, p.2) (ends c.in_err-page.field-0.0
+    let e = c.in_err-page.field-0.0 in
+    rw (p.1, p.2) (part_fails e _ _ (ends e
     (read_page_at c.args.sources.now.slots.now (map arc_value c.args.sources.now.pool.now)) c.loop.pages.items
     c.args.count c.loop.counter (record { low = c.loop.low; used = c.loop.used }) c.loop.cursor _ c.loop-test.true
-    c.in_err-page.ensures.given c.loop.invariant)
+    c.in_err-page.ensures.given c.loop.invariant))
 
 pub loop-preserved : goal.loop-preserved
 loop-preserved c =
@@ -33,6 +34,6 @@ returns-clause-ascend c = chain_ascends c.args.sources.now.slots.now (map arc_va
     _ c.loop-test.false c.loop.invariant)
 
 pub returns-clause-given : goal.returns-clause-given
-returns-clause-given c = is_done (read_page_at c.args.sources.now.slots.now
+returns-clause-given c = kept_read _ _ _ _ (is_done (read_page_at c.args.sources.now.slots.now
     (map arc_value c.args.sources.now.pool.now)) c.loop.pages.items c.args.count c.loop.counter
-    (record { low = c.loop.low; used = c.loop.used }) c.loop.cursor _ c.loop-test.false c.loop.invariant
+    (record { low = c.loop.low; used = c.loop.used }) c.loop.cursor _ c.loop-test.false c.loop.invariant)

@@ -1,10 +1,11 @@
 -- Answers to the goals that the check of `record` leaves open: the fields before the one that fails were read.
-use Rattle.std.proofs.Common.{map, refl}
+use Rattle.std.proofs.Common.{ℕ, List, map, refl, ap}
 use Rattle.std.specs.Arc.{arc_value}
 use Rattle.std.proofs.lemmas.Result.{err_from_is_err_and}
+use Rattle.thunk_spec.specs.Reads.{ReadPage}
 use Rattle.memo_file.specs.Growth.{state_of}
 use Rattle.memo_file.specs.Heads.{behind_head}
-use Rattle.memo_file.proofs.Loops.{part_fails}
+use Rattle.memo_file.proofs.Loops.{part_fails, kept_fails, kept_ok}
 use Rattle.memo_file.proofs.records.record.Goals as goal
 
 pub returns-in_err-head-clause-given : goal.returns-in_err-head-clause-given
@@ -31,8 +32,9 @@ returns-in_err-reads-clause-given c =
     let behind =
     c.in_ok-head.ensures.behind c.args.sources.now.slots.now (map arc_value c.args.sources.now.pool.now)
     (state_of c.args.before.now) in
+    let e = c.in_err-reads.field-0.0 in
     rw (p.1, p.2, behind, c.in_ok-read_count.ensures.given, ← c.used.ensures)
-    (part_fails c.in_err-reads.field-0.0 _ _ c.in_err-reads.ensures.given)
+    (part_fails e _ _ (kept_fails e _ _ c.in_err-reads.ensures.given))
 
 pub returns-in_err-delta_count-clause-given : goal.returns-in_err-delta_count-clause-given
 unfolding behind_head
@@ -41,7 +43,8 @@ returns-in_err-delta_count-clause-given c =
     let behind =
     c.in_ok-head.ensures.behind c.args.sources.now.slots.now (map arc_value c.args.sources.now.pool.now)
     (state_of c.args.before.now) in
-    rw (p.1, p.2, behind, c.in_ok-read_count.ensures.given, ← c.used.ensures, c.in_ok-reads.ensures.given)
+    let reads = kept_ok _ _ _ _ c.in_ok-reads.ensures.given in
+    rw (p.1, p.2, behind, c.in_ok-read_count.ensures.given, ← c.used.ensures, reads.1)
     (part_fails c.in_err-delta_count.field-0.0 _ _ c.in_err-delta_count.ensures.given)
 
 pub returns-in_err-delta-clause-given : goal.returns-in_err-delta-clause-given
@@ -51,8 +54,10 @@ returns-in_err-delta-clause-given c =
     let behind =
     c.in_ok-head.ensures.behind c.args.sources.now.slots.now (map arc_value c.args.sources.now.pool.now)
     (state_of c.args.before.now) in
-    rw (p.1, p.2, behind, c.in_ok-read_count.ensures.given, ← c.used.ensures, c.in_ok-reads.ensures.given, c.in_ok-delta_count.ensures.given)
-    (part_fails c.in_err-delta.field-0.0 _ _ c.in_err-delta.ensures.given)
+    let reads = kept_ok _ _ _ _ c.in_ok-reads.ensures.given in
+    let e = c.in_err-delta.field-0.0 in
+    rw (p.1, p.2, behind, c.in_ok-read_count.ensures.given, ← c.used.ensures, reads.1, c.in_ok-delta_count.ensures.given)
+    (part_fails e _ _ (kept_fails e _ _ c.in_err-delta.ensures.given))
 
 pub returns-clause-thread : goal.returns-clause-thread
 returns-clause-thread c = rw c.new-made.ensures c.in_ok-head.ensures.thread
@@ -66,11 +71,16 @@ returns-clause-given c =
     let behind =
     c.in_ok-head.ensures.behind c.args.sources.now.slots.now (map arc_value c.args.sources.now.pool.now)
     (state_of c.args.before.now) in
+    let reads = kept_ok _ _ _ _ c.in_ok-reads.ensures.given in
+    let delta = kept_ok _ _ _ _ c.in_ok-delta.ensures.given in
     rw (c.new-made.ensures, c.new.ensures, c.new-2.ensures, c.next_number-number.ensures) (rw (
       behind,
       c.in_ok-read_count.ensures.given,
       ← c.used.ensures,
-      c.in_ok-reads.ensures.given,
+      reads.1,
       c.in_ok-delta_count.ensures.given,
-      c.in_ok-delta.ensures.given,
+      delta.1,
+      ap (λ (x : List ReadPage × ℕ). x.0) reads.2,
+      ap (λ (x : List ReadPage × ℕ). x.1) reads.2,
+      delta.2,
     ) refl)
