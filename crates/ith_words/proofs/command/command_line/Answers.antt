@@ -1,13 +1,16 @@
--- Each command was added to those before it.
-use Rattle.std.proofs.Common.{◌≡◌, subst}
-use Rattle.std.specs.Prelude.{IfOk}
-use Rattle.clap.specs.Words.{App, app_of, with_subcommand}
+use Rattle.std.proofs.Common.{◌≡◌, map, ap, ◌∙◌}
+use Rattle.std.proofs.lemmas.Result.{IfOk-weaker}
+use Rattle.clap.specs.Words.{AddsInTurn, AddsSubcommand, app_of}
 use Rattle.clap.specs.declared.builder.command.Command.{Command}
-use Rattle.ith_words.specs.Words.{command_line, generate_command}
+use Rattle.ith_words.specs.Words.{command_line, guest_commands, judging_commands, memo_commands, program}
+use Rattle.ith_words.proofs.Commands.{below_in_turn, with_commands}
 use Rattle.ith_words.proofs.command.command_line.Goals as goal
 
 pub returns : goal.returns
-unfolding command_line
+unfolding command_line judging_commands memo_commands guest_commands
 returns c =
-    subst (λ (a : App). IfOk c.with_command.result (λ (last : Command). app_of last ≡ with_subcommand a generate_command.top)) c.in_ok-judging_commands.ensures
-    (c.with_command.ensures generate_command c.generate_command.ensures.shape)
+    let commands = c.in_ok-commands.commands.items in
+    IfOk-weaker _ (AddsInTurn AddsSubcommand c.program.result commands) (λ (whole : Command). app_of whole ≡ command_line)
+    (λ whole adds. below_in_turn c.program.result whole commands c.in_ok-commands.ensures.local adds
+    ∙ ap (λ a. with_commands a (map app_of commands)) c.program.ensures
+    ∙ ap (with_commands program) c.in_ok-commands.ensures.shapes) c.subcommands.ensures
