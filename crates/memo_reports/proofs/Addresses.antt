@@ -1,6 +1,7 @@
 -- The addresses of a setup's pages are words.
-use Rattle.std.proofs.Common.{◌≡◌, ℕ, zero, suc, ◌+◌, ◌*◌, ◌^◌, ◌<◌, ◌≤◌, List, ◌++◌, length, map, All, slice_index_or, Fits, w32, sym, subst, arith}
+use Rattle.std.proofs.Common.{◌≡◌, ℕ, zero, suc, ◌+◌, ◌*◌, ◌^◌, ◌<◌, ◌≤◌, List, [], ◌∷◌, ◌++◌, length, map, take, get_or, All, slice_index_or, Fits, w32, sym, ap, ◌∙◌, subst, arith}
 use Rattle.std.specs.List.{AllByRecursion, range_with_len}
+use Rattle.std.proofs.lemmas.List.{map-append, take_more}
 use Rattle.std.proofs.lemmas.List.Elements.{All-append, All-from_recursion}
 use Rattle.memory_spec.specs.Pages.{Mapped, unmapped}
 use Rattle.elf_spec.specs.Image.{image_pages}
@@ -40,3 +41,17 @@ word_address s pages slot address sound are below is =
     let low : (slice_index_or pages slot unmapped).number < 2 ^ 20 =
     subst (All IsLow) (sym are) (low_pages s sound) slot unmapped below in
     omega arith
+
+-- the addresses of the first pages, with one more
+pub addresses_next :
+    (pages whole : List Mapped) (k a : ℕ) (d : Mapped) (addresses more : List ℕ)
+    → pages ≡ whole → k < length pages → a ≡ (get_or pages k d).number * 4096
+    → addresses ≡ map (λ (page : Mapped). page.number * 4096) (take k whole) → more ≡ addresses ++ a ∷ []
+    → more ≡ map (λ (page : Mapped). page.number * 4096) (take (k + 1) whole)
+addresses_next pages whole k a d addresses more same below is so one =
+    let address = λ (page : Mapped). page.number * 4096 in
+    one
+    ∙ ap (λ (l : List ℕ). l ++ a ∷ []) so
+    ∙ ap (λ (n : ℕ). map address (take k whole) ++ n ∷ []) (is ∙ ap (λ (ps : List Mapped). address (get_or ps k d)) same)
+    ∙ sym (ap (map address) (take_more whole k d (subst (λ (ps : List Mapped). k < length ps) same below))
+    ∙ map-append address (take k whole) (get_or whole k d ∷ []))

@@ -1,8 +1,8 @@
 -- The lines of records, one after the other.
-use Rattle.std.proofs.Common.{◌≡◌, ℕ, suc, ◌+◌, ◌*◌, ◌<◌, List, [], ◌∷◌, ◌++◌, append-nil, append_assoc, length, take, drop, All, get_or, slice_get, Some, sym, ap, ◌∙◌, subst, drop-cons, arith}
+use Rattle.std.proofs.Common.{◌≡◌, ℕ, suc, ◌+◌, ◌*◌, ◌<◌, ◌≤◌, List, [], ◌∷◌, ◌++◌, append-nil, append_assoc, length, take, drop, All, get_or, slice_get, Some, sym, ap, ◌∙◌, subst, drop-cons, arith}
 use Rattle.std.specs.Prelude.{codes}
 use Rattle.std.specs.List.{flat_map}
-use Rattle.std.proofs.lemmas.List.{take_more}
+use Rattle.std.proofs.lemmas.List.{take_all, take_more}
 use Rattle.std.proofs.lemmas.List.Concat.{flat_map-append}
 use Rattle.std.proofs.lemmas.Option.{slice_get_within, get_or_from_slice_get}
 use Rattle.thunk_spec.specs.Record.{Record}
@@ -10,7 +10,7 @@ use Rattle.std.proofs.lemmas.List.{length-map}
 use Rattle.memory_spec.specs.Pages.{Mapped}
 use Rattle.machine_spec.specs.Setup.{map_of}
 use Rattle.history_spec.specs.History.{History, IsMapped, IsMappedIn}
-use Rattle.memo_reports.specs.Listing.{address_text, addresses_of, entry_line, entry_lines}
+use Rattle.memo_reports.specs.Listing.{address_text, addresses_of, pages_text, entry_line, entry_lines}
 
 -- the record at a place is mapped if all are
 pub mapped_at :
@@ -52,6 +52,21 @@ later_in_range slot n all first others k x mapped is below at =
 abbrev further : {X : Type 0} → List ℕ → (X → ℕ) → X → List ℕ
 further addresses slot x = codes "," ++ address_text addresses (slot x)
 
+-- the texts of the first elements, with one more
+pub texts_next :
+    {X : Type 0} (f : X → List ℕ) (xs : List X) (k : ℕ) (d : X) (before into new : List ℕ)
+    → k < length xs → into ≡ before ++ flat_map f (take k xs) → new ≡ into ++ f (get_or xs k d)
+    → new ≡ before ++ flat_map f (take (k + 1) xs)
+texts_next f xs k d before into new below so more =
+    let x = get_or xs k d in
+    more
+    ∙ ap (λ (l : List ℕ). l ++ f x) so
+    ∙ append_assoc before (flat_map f (take k xs)) (f x)
+    ∙ ap (λ (l : List ℕ). before ++ l)
+    (sym (ap (flat_map f) (take_more xs k d below)
+    ∙ flat_map-append f (take k xs) (x ∷ [])
+    ∙ ap (λ (l : List ℕ). flat_map f (take k xs) ++ l) (append-nil (f x))))
+
 -- the addresses of the first elements after the first one, with one more
 pub address_next :
     {X : Type 0} (addresses : List ℕ) (slot : X → ℕ) (xs : List X) (k : ℕ) (x : X) (s : ℕ)
@@ -61,16 +76,24 @@ pub address_next :
     → pushed ≡ into ++ codes "," → new ≡ pushed ++ address_text addresses s
     → new ≡ before ++ flat_map (further addresses slot) (take (k + 1) xs)
 address_next addresses slot xs k x s before into pushed new below at same so comma address =
-    let f = further addresses slot in
-    let text = address_text addresses (slot x) in
-    let more : take (k + 1) xs ≡ take k xs ++ x ∷ [] =
-    take_more xs k x below ∙ ap (λ y. take k xs ++ y ∷ []) (sym at) in
-    address
-    ∙ ap (λ (n : ℕ). pushed ++ address_text addresses n) same
-    ∙ ap (λ (l : List ℕ). l ++ text) (comma ∙ ap (λ (l : List ℕ). l ++ codes ",") so)
-    ∙ append_assoc (before ++ flat_map f (take k xs)) (codes ",") text
-    ∙ append_assoc before (flat_map f (take k xs)) (f x)
-    ∙ ap (λ (l : List ℕ). before ++ l)
-    (sym (ap (flat_map f) more
-    ∙ flat_map-append f (take k xs) (x ∷ [])
-    ∙ ap (λ (l : List ℕ). flat_map f (take k xs) ++ l) (append-nil (f x))))
+    texts_next (further addresses slot) xs k x before into new below so
+    (address
+    ∙ ap (λ (n : ℕ). pushed ++ address_text addresses n) (same ∙ ap slot at)
+    ∙ ap (λ (l : List ℕ). l ++ address_text addresses (slot (get_or xs k x))) comma
+    ∙ append_assoc into (codes ",") (address_text addresses (slot (get_or xs k x))))
+
+-- the addresses of all elements
+pub addresses_whole :
+    {X : Type 0} (addresses : List ℕ) (slot : X → ℕ) (all : List X) (first : X) (others : List X) (k s : ℕ)
+    (old before into : List ℕ)
+    → all ≡ first ∷ others → s ≡ slot first → before ≡ old ++ address_text addresses s → length others ≤ k
+    → into ≡ before ++ flat_map (further addresses slot) (take k others)
+    → into ≡ old ++ pages_text addresses slot all
+addresses_whole {X = X} addresses slot all first others k s old before into are same start end so =
+    let rest = flat_map (further addresses slot) others in
+    so
+    ∙ ap (λ (xs : List X). before ++ flat_map (further addresses slot) xs) (take_all k others end)
+    ∙ ap (λ (l : List ℕ). l ++ rest) start
+    ∙ append_assoc old (address_text addresses s) rest
+    ∙ ap (λ (n : ℕ). old ++ (address_text addresses n ++ rest)) same
+    ∙ ap (λ (xs : List X). old ++ pages_text addresses slot xs) (sym are)
