@@ -22,15 +22,15 @@ use Rattle.memo_reports.proofs.Earlier.{HasPast, access_for, other-page, page-mo
 
 -- a step in the list of them
 pub step-is :
-    (fs : List Fact) (reads : List (List ℕ)) (pages j : ℕ) (steps : List Step) (s : Step)
-    → AreSteps fs reads pages steps → j < length steps → s ≡ get_or steps j s → IsStep fs reads pages j s
-step-is fs reads pages j steps s are less at =
+    (fs : List Fact) (reads : List (List ℕ)) (pages j n : ℕ) (steps : List Step) (s : Step)
+    → AreSteps fs reads pages steps → j < n → n ≡ length steps → s ≡ get_or steps j s → IsStep fs reads pages j s
+step-is fs reads pages j n steps s are less end at =
     let many = are.many in subst (IsStep fs reads pages j) (sym at) (are.each j s (omega arith))
 
 pub threads-known :
-    (fs : List Fact) (reads : List (List ℕ)) (pages n : ℕ) (steps : List Step) (s : Step)
-    → AreSteps fs reads pages steps → n ≤ length steps → (i : ℕ) → i < n → (fact_at fs i).thread < 32
-threads-known fs reads pages n steps s are less i low =
+    (fs : List Fact) (reads : List (List ℕ)) (pages j n : ℕ) (steps : List Step) (s : Step)
+    → AreSteps fs reads pages steps → j < n → n ≡ length steps → (i : ℕ) → i < j → (fact_at fs i).thread < 32
+threads-known fs reads pages j n steps s are less end i low =
     let many = are.many in
     let is = are.each i s (omega arith) in
     subst (λ (t : ℕ). t < 32) is.thread is.known

@@ -4,6 +4,7 @@ use Rattle.std.specs.List.{filter, flat_map, range_with_len, count_by}
 use Rattle.std.proofs.lemmas.List.{length-set, get_or_default}
 use Rattle.memory_spec.specs.Pages.{Mapped}
 use Rattle.machine_spec.specs.Setup.{Setup, map_of}
+use Rattle.history_spec.specs.History.{History}
 use Rattle.history_spec.specs.Facts.{facts}
 use Rattle.round_spec.specs.Reach.{reads_of}
 use Rattle.round_spec.specs.declared.Race.{Race}
@@ -23,6 +24,9 @@ use Rattle.memo_reports.proofs.races.finding.races.Goals as goal
 -- the stand-in for a page past the end
 abbrev none : Touch
 none = record { slot = 0; writes = false }
+
+few-steps : (h : History) (n k : ℕ) → n ≡ k → k ≡ length (facts h) → length h.records ≤ 65536 → n ≤ 65536
+few-steps h n k end many few = omega (arith, fact-count h)
 
 pub loop-place-init : goal.loop-place-init
 loop-place-init c =
@@ -72,15 +76,12 @@ index_mut-page-requires c =
     let j = c.loop-place.place in
     let s = c.index-step.result.now in
     let t = get_or c.deref-touch-items.result.now c.loop-touch.touch-index none in
-    let long = c.len-place-end.ensures in
     let is =
-    adding.step-is fs reads pages j c.in_ok-steps.steps.items s c.in_ok-steps.ensures.steps
-    (let low = c.loop-place-test.true in omega arith) c.index-step.ensures in
+    adding.step-is fs reads pages j c.len-place-end.result c.in_ok-steps.steps.items s c.in_ok-steps.ensures.steps
+    c.loop-place-test.true (c.len-place-end.ensures ∙ c.in_ok-steps.steps.ok.0) c.index-step.ensures in
     let touched = adding.touch-is fs reads pages j s is c.deref-touch-items.result.now c.loop-touch.touch-index none
     c.deref-touch-items.ensures.value c.loop-touch-test.true in
-    let below = touched.below in
-    let all = c.loop-touch.invariant.long in
-    omega arith
+    subst (λ (k : ℕ). t.slot < k) (sym (c.loop-touch.past.ok.0 ∙ c.loop-touch.invariant.long)) touched.below
 
 pub add-requires-clause-past : goal.add-requires-clause-past
 add-requires-clause-past c =
@@ -91,8 +92,8 @@ add-requires-clause-past c =
     let n = c.len-place-end.result in
     let s = c.index-step.result.now in
     let is =
-    adding.step-is fs reads pages j c.in_ok-steps.steps.items s c.in_ok-steps.ensures.steps
-    (let low = c.loop-place-test.true in let long = c.len-place-end.ensures in omega arith) c.index-step.ensures in
+    adding.step-is fs reads pages j c.len-place-end.result c.in_ok-steps.steps.items s c.in_ok-steps.ensures.steps
+    c.loop-place-test.true (c.len-place-end.ensures ∙ c.in_ok-steps.steps.ok.0) c.index-step.ensures in
     let m = c.loop-touch.touch-index in
     let t = get_or c.deref-touch-items.result.now m none in
     let touched =
@@ -113,8 +114,8 @@ add-requires-in-loop-touch-clause-past c =
     let n = c.len-place-end.result in
     let s = c.index-step.result.now in
     let is =
-    adding.step-is fs reads pages j c.in_ok-steps.steps.items s c.in_ok-steps.ensures.steps
-    (let low = c.loop-place-test.true in let long = c.len-place-end.ensures in omega arith) c.index-step.ensures in
+    adding.step-is fs reads pages j c.len-place-end.result c.in_ok-steps.steps.items s c.in_ok-steps.ensures.steps
+    c.loop-place-test.true (c.len-place-end.ensures ∙ c.in_ok-steps.steps.ok.0) c.index-step.ensures in
     let m = c.loop-touch.touch-index in
     let t = get_or c.deref-touch-items.result.now m none in
     let touched =
@@ -135,11 +136,11 @@ overflow_add-total c =
     let n = c.len-place-end.result in
     let s = c.index-step.result.now in
     let is =
-    adding.step-is fs reads pages j c.in_ok-steps.steps.items s c.in_ok-steps.ensures.steps
-    (let low = c.loop-place-test.true in let long = c.len-place-end.ensures in omega arith) c.index-step.ensures in
+    adding.step-is fs reads pages j c.len-place-end.result c.in_ok-steps.steps.items s c.in_ok-steps.ensures.steps
+    c.loop-place-test.true (c.len-place-end.ensures ∙ c.in_ok-steps.steps.ok.0) c.index-step.ensures in
     let known =
-    adding.threads-known fs reads pages j c.in_ok-steps.steps.items s c.in_ok-steps.ensures.steps
-    (let low = c.loop-place-test.true in let long = c.len-place-end.ensures in omega arith) in
+    adding.threads-known fs reads pages j c.len-place-end.result c.in_ok-steps.steps.items s c.in_ok-steps.ensures.steps
+    c.loop-place-test.true (c.len-place-end.ensures ∙ c.in_ok-steps.steps.ok.0) in
     let m = c.loop-touch.touch-index in
     let t = get_or c.deref-touch-items.result.now m none in
     let touched =
@@ -149,17 +150,12 @@ overflow_add-total c =
     let has =
     adding.page-has fs reads t.slot j m s c.loop-touch.past.items page (c.loop-touch.invariant.past t.slot page touched.below)
     c.index_mut-page.ensures.value in
-    let steps_few : n ≤ 65536 =
-    (let many = c.in_ok-steps.ensures.steps.many in
-    let long = c.len-place-end.ensures in
-    let count = fact-count c.args.history.now in
-    let few = c.in_ok-steps.ensures.of_run.few in
-    omega arith) in
-    let pages_few : pages ≤ 1048576 =
-    (let small =
-    few-pages c.setup-setup.result.now c.in_ok-map.map c.in_ok-map.ensures.sound c.in_ok-map.ensures.map c.len-pages.ensures.ascending in
-    let size = c.len-pages.ensures.count in
-    omega arith) in
+    let steps_few =
+    few-steps c.args.history.now n _ (c.len-place-end.ensures ∙ c.in_ok-steps.steps.ok.0) c.in_ok-steps.ensures.steps.many
+    c.in_ok-steps.ensures.of_run.few in
+    let pages_few =
+    subst (λ (k : ℕ). k ≤ 1048576) (sym c.len-pages.ensures.count)
+    (few-pages c.setup-setup.result.now c.in_ok-map.map c.in_ok-map.ensures.sound c.in_ok-map.ensures.map c.len-pages.ensures.ascending) in
     let low : j < n = c.loop-place-test.true in
     let count = c.in_ok-total.ensures.count ∙ racing-counted fs reads pages j s is known t m page touched has in
     let at_most = tally-few (λ i. is_race fs reads i j t.slot) j in
@@ -179,11 +175,11 @@ add-requires-clause-room c =
     let n = c.len-place-end.result in
     let s = c.index-step.result.now in
     let is =
-    adding.step-is fs reads pages j c.in_ok-steps.steps.items s c.in_ok-steps.ensures.steps
-    (let low = c.loop-place-test.true in let long = c.len-place-end.ensures in omega arith) c.index-step.ensures in
+    adding.step-is fs reads pages j c.len-place-end.result c.in_ok-steps.steps.items s c.in_ok-steps.ensures.steps
+    c.loop-place-test.true (c.len-place-end.ensures ∙ c.in_ok-steps.steps.ok.0) c.index-step.ensures in
     let known =
-    adding.threads-known fs reads pages j c.in_ok-steps.steps.items s c.in_ok-steps.ensures.steps
-    (let low = c.loop-place-test.true in let long = c.len-place-end.ensures in omega arith) in
+    adding.threads-known fs reads pages j c.len-place-end.result c.in_ok-steps.steps.items s c.in_ok-steps.ensures.steps
+    c.loop-place-test.true (c.len-place-end.ensures ∙ c.in_ok-steps.steps.ok.0) in
     let m = c.loop-touch.touch-index in
     let t = get_or c.deref-touch-items.result.now m none in
     let touched =
@@ -193,17 +189,12 @@ add-requires-clause-room c =
     let has =
     adding.page-has fs reads t.slot j m s c.loop-touch.past.items page (c.loop-touch.invariant.past t.slot page touched.below)
     c.index_mut-page.ensures.value in
-    let steps_few : n ≤ 65536 =
-    (let many = c.in_ok-steps.ensures.steps.many in
-    let long = c.len-place-end.ensures in
-    let count = fact-count c.args.history.now in
-    let few = c.in_ok-steps.ensures.of_run.few in
-    omega arith) in
-    let pages_few : pages ≤ 1048576 =
-    (let small =
-    few-pages c.setup-setup.result.now c.in_ok-map.map c.in_ok-map.ensures.sound c.in_ok-map.ensures.map c.len-pages.ensures.ascending in
-    let size = c.len-pages.ensures.count in
-    omega arith) in
+    let steps_few =
+    few-steps c.args.history.now n _ (c.len-place-end.ensures ∙ c.in_ok-steps.steps.ok.0) c.in_ok-steps.ensures.steps.many
+    c.in_ok-steps.ensures.of_run.few in
+    let pages_few =
+    subst (λ (k : ℕ). k ≤ 1048576) (sym c.len-pages.ensures.count)
+    (few-pages c.setup-setup.result.now c.in_ok-map.map c.in_ok-map.ensures.sound c.in_ok-map.ensures.map c.len-pages.ensures.ascending) in
     let low : j < n = c.loop-place-test.true in
     let rows = c.loop-touch.first.rows.items in
     adding.many-fits fs reads pages n j s is low m c.loop-touch.first.many (length (accesses_of page)) rows steps_few pages_few
@@ -222,11 +213,9 @@ add-requires-in-loop-touch-clause-known c =
     let n = c.len-place-end.result in
     let s = c.index-step.result.now in
     let is =
-    adding.step-is fs reads pages j c.in_ok-steps.steps.items s c.in_ok-steps.ensures.steps
-    (let low = c.loop-place-test.true in let long = c.len-place-end.ensures in omega arith) c.index-step.ensures in
-    let known = is.known in
-    let thread = ap (λ (a : Access). a.thread) c.of.ensures in
-    omega arith
+    adding.step-is fs reads pages j c.len-place-end.result c.in_ok-steps.steps.items s c.in_ok-steps.ensures.steps
+    c.loop-place-test.true (c.len-place-end.ensures ∙ c.in_ok-steps.steps.ok.0) c.index-step.ensures in
+    subst (λ (thread : ℕ). thread < 32) (sym (ap (λ (a : Access). a.thread) c.of.ensures)) is.known
 
 pub add-requires-in-loop-touch-clause-after : goal.add-requires-in-loop-touch-clause-after
 add-requires-in-loop-touch-clause-after c =
@@ -237,11 +226,11 @@ add-requires-in-loop-touch-clause-after c =
     let n = c.len-place-end.result in
     let s = c.index-step.result.now in
     let is =
-    adding.step-is fs reads pages j c.in_ok-steps.steps.items s c.in_ok-steps.ensures.steps
-    (let low = c.loop-place-test.true in let long = c.len-place-end.ensures in omega arith) c.index-step.ensures in
+    adding.step-is fs reads pages j c.len-place-end.result c.in_ok-steps.steps.items s c.in_ok-steps.ensures.steps
+    c.loop-place-test.true (c.len-place-end.ensures ∙ c.in_ok-steps.steps.ok.0) c.index-step.ensures in
     let known =
-    adding.threads-known fs reads pages j c.in_ok-steps.steps.items s c.in_ok-steps.ensures.steps
-    (let low = c.loop-place-test.true in let long = c.len-place-end.ensures in omega arith) in
+    adding.threads-known fs reads pages j c.len-place-end.result c.in_ok-steps.steps.items s c.in_ok-steps.ensures.steps
+    c.loop-place-test.true (c.len-place-end.ensures ∙ c.in_ok-steps.steps.ok.0) in
     let m = c.loop-touch.touch-index in
     let t = get_or c.deref-touch-items.result.now m none in
     let touched =
@@ -263,11 +252,11 @@ loop-touch-preserved c =
     let n = c.len-place-end.result in
     let s = c.index-step.result.now in
     let is =
-    adding.step-is fs reads pages j c.in_ok-steps.steps.items s c.in_ok-steps.ensures.steps
-    (let low = c.loop-place-test.true in let long = c.len-place-end.ensures in omega arith) c.index-step.ensures in
+    adding.step-is fs reads pages j c.len-place-end.result c.in_ok-steps.steps.items s c.in_ok-steps.ensures.steps
+    c.loop-place-test.true (c.len-place-end.ensures ∙ c.in_ok-steps.steps.ok.0) c.index-step.ensures in
     let known =
-    adding.threads-known fs reads pages j c.in_ok-steps.steps.items s c.in_ok-steps.ensures.steps
-    (let low = c.loop-place-test.true in let long = c.len-place-end.ensures in omega arith) in
+    adding.threads-known fs reads pages j c.len-place-end.result c.in_ok-steps.steps.items s c.in_ok-steps.ensures.steps
+    c.loop-place-test.true (c.len-place-end.ensures ∙ c.in_ok-steps.steps.ok.0) in
     let m = c.loop-touch.touch-index in
     let t = get_or c.deref-touch-items.result.now m none in
     let touched =
@@ -287,7 +276,7 @@ loop-touch-preserved c =
       long = length-set c.loop-touch.past.items t.slot c.add-in-loop-touch.new.self ∙ inv.long;
       past = λ p d below.
           adding.past-more fs reads pages j m s is known t c.loop-touch.past.items page c.add-in-loop-touch.new.self within at
-          (let all = inv.long in let there = touched.below in omega arith) c.index_mut-page.ensures.value
+          (subst (λ (k : ℕ). t.slot < k) (sym inv.long) touched.below) c.index_mut-page.ensures.value
           c.in_ok-add.ensures.past
           (λ q. c.in_ok-add.ensures.counts q ∙ ap (λ (a : Access). count_by q (accesses_of page) + bit (q a)) c.of.ensures)
           p d (inv.past p d below);
@@ -298,11 +287,10 @@ loop-touch-preserved c =
           let one = ap (λ (ts : List Touch). adding.races_now fs reads n j ts m) same in
           let two = ap (λ (ts : List Touch). adding.races_now fs reads n j ts (m + 1)) same in
           omega arith);
-      few = (let long = c.in_ok-total.ensures.long in let few = inv.few in omega arith);
+      few = subst (λ (k : ℕ). k ≤ j) (sym c.in_ok-total.ensures.long) inv.few;
       rows = λ i less.
-          (let long = c.in_ok-total.ensures.long in
-          let few = inv.few in
-          let there : i < length c.loop-touch.first.rows.items = omega arith in
+          (let few = inv.few in
+          let there = subst (λ (k : ℕ). i < k) c.in_ok-total.ensures.long less in
           adding.row-next fs reads i j m c.deref-touch-items.result.now t (get_or c.loop-touch.first.rows.items i [])
           (get_or c.add.new.self.rows.items i []) (flat_map (races_between fs reads pages i) (range_with_len 0 j))
           (races_in i j t (filter (races_with s t.writes) (accesses_of page))) c.loop-touch-test.true
@@ -325,11 +313,11 @@ loop-place-preserved c =
     let n = c.len-place-end.result in
     let s = c.index-step.result.now in
     let is =
-    adding.step-is fs reads pages j c.in_ok-steps.steps.items s c.in_ok-steps.ensures.steps
-    (let low = c.loop-place-test.true in let long = c.len-place-end.ensures in omega arith) c.index-step.ensures in
+    adding.step-is fs reads pages j c.len-place-end.result c.in_ok-steps.steps.items s c.in_ok-steps.ensures.steps
+    c.loop-place-test.true (c.len-place-end.ensures ∙ c.in_ok-steps.steps.ok.0) c.index-step.ensures in
     let known =
-    adding.threads-known fs reads pages j c.in_ok-steps.steps.items s c.in_ok-steps.ensures.steps
-    (let low = c.loop-place-test.true in let long = c.len-place-end.ensures in omega arith) in
+    adding.threads-known fs reads pages j c.len-place-end.result c.in_ok-steps.steps.items s c.in_ok-steps.ensures.steps
+    c.loop-place-test.true (c.len-place-end.ensures ∙ c.in_ok-steps.steps.ok.0) in
     let m = c.loop-touch.touch-index in
     let low : j < n = c.loop-place-test.true in
     let inv = c.loop-touch.invariant in
