@@ -28,6 +28,11 @@ known-thread :
 known-thread fs h i is run less =
     subst (All (λ (f : Fact). f.thread < 32)) (sym is) (have-threads h run.threads) i no_fact less
 
+low-thread :
+    (fs : List Fact) (h : History) (i t : ℕ)
+    → fs ≡ facts h → AreOfRun h.records → i < length fs → t ≡ (fact_at fs i).thread → t < 32
+low-thread fs h i t is run less same = subst (λ (n : ℕ). n < 32) (sym same) (known-thread fs h i is run less)
+
 count-few : (p : ℕ → Bool) (n : ℕ) → count_below p n ≤ n
 count-few p zero = omega arith
 count-few p (suc n) = by-bit (p n) (count-few p n)
@@ -35,6 +40,9 @@ count-few p (suc n) = by-bit (p n) (count-few p n)
     by-bit : (b : Bool) → count_below p n ≤ n → cond b 1 0 + count_below p n ≤ suc n
     by-bit true few = omega arith
     by-bit false few = omega arith
+
+last-place : (i j : ℕ) → i ≤ j → j < i + 1 → i ≡ j
+last-place i j late below = omega arith
 
 -- one more step of a thread is counted
 count-next :
@@ -80,36 +88,37 @@ loop-i-init c = record {
 pub bounds-numbers-from : goal.bounds-numbers-from
 bounds-numbers-from c =
     let fs = c.in_ok-facts.field-0.facts.items in
-    let less : c.loop-i.i < length fs = omega arith in
+    let less =
+    subst (λ (k : ℕ). c.loop-i.i < k) (c.len-i-end.ensures ∙ c.in_ok-facts.field-0.facts.ok.0) c.loop-i-test.true in
     let here = c.fact.view_is ∙ get_or_read fs c.loop-i.i c.index-fact.result.now less c.index-fact.ensures no_fact in
-    let known = known-thread fs c.args.history.now c.loop-i.i c.in_ok-facts.ensures.facts c.in_ok-facts.ensures.of_run less in
-    let same = c.from.ensures ∙ ap (λ (f : Fact). f.thread) here in
-    omega arith
+    low-thread fs c.args.history.now c.loop-i.i c.from.result c.in_ok-facts.ensures.facts c.in_ok-facts.ensures.of_run less
+    (c.from.ensures ∙ ap (λ (f : Fact). f.thread) here)
 
 pub bounds-numbers-from-in-loop-i : goal.bounds-numbers-from-in-loop-i
 bounds-numbers-from-in-loop-i c =
     let fs = c.in_ok-facts.field-0.facts.items in
-    let less : c.loop-i.i < length fs = omega arith in
+    let less =
+    subst (λ (k : ℕ). c.loop-i.i < k) (c.len-i-end.ensures ∙ c.in_ok-facts.field-0.facts.ok.0) c.loop-i-test.true in
     let here = c.fact.view_is ∙ get_or_read fs c.loop-i.i c.index-fact.result.now less c.index-fact.ensures no_fact in
-    let known = known-thread fs c.args.history.now c.loop-i.i c.in_ok-facts.ensures.facts c.in_ok-facts.ensures.of_run less in
-    let same = c.from-in-loop-i.ensures ∙ ap (λ (f : Fact). f.thread) here in
-    omega arith
+    low-thread fs c.args.history.now c.loop-i.i c.from-in-loop-i.result c.in_ok-facts.ensures.facts c.in_ok-facts.ensures.of_run less
+    (c.from-in-loop-i.ensures ∙ ap (λ (f : Fact). f.thread) here)
 
 pub bounds-numbers-from-in-loop-i-2 : goal.bounds-numbers-from-in-loop-i-2
 bounds-numbers-from-in-loop-i-2 c =
     let fs = c.in_ok-facts.field-0.facts.items in
-    let less : c.loop-i.i < length fs = omega arith in
+    let less =
+    subst (λ (k : ℕ). c.loop-i.i < k) (c.len-i-end.ensures ∙ c.in_ok-facts.field-0.facts.ok.0) c.loop-i-test.true in
     let here = c.fact.view_is ∙ get_or_read fs c.loop-i.i c.index-fact.result.now less c.index-fact.ensures no_fact in
-    let known = known-thread fs c.args.history.now c.loop-i.i c.in_ok-facts.ensures.facts c.in_ok-facts.ensures.of_run less in
-    let same = c.from-in-loop-i.ensures ∙ ap (λ (f : Fact). f.thread) here in
-    omega arith
+    low-thread fs c.args.history.now c.loop-i.i c.from-in-loop-i.result c.in_ok-facts.ensures.facts c.in_ok-facts.ensures.of_run less
+    (c.from-in-loop-i.ensures ∙ ap (λ (f : Fact). f.thread) here)
 
 pub at-requires : goal.at-requires
 at-requires c =
     let many = fact-count c.args.history.now in
     let one = ap (λ (fs : List Fact). length fs) c.in_ok-facts.ensures.facts in
     let two = ap (λ (rs : List Record). length rs) c.records-records.ensures.records in
-    omega arith
+    subst (λ (k : ℕ). c.loop-i.i < k) (c.len-i-end.ensures ∙ c.in_ok-facts.field-0.facts.ok.0 ∙ one ∙ many ∙ sym two)
+    c.loop-i-test.true
 
 pub touches_of-requires : goal.touches_of-requires
 touches_of-requires c =
@@ -124,12 +133,14 @@ touches_of-requires c =
 pub overflow_add-numbers : goal.overflow_add-numbers
 overflow_add-numbers c =
     let fs = c.in_ok-facts.field-0.facts.items in
-    let less : c.loop-i.i < length fs = omega arith in
+    let less =
+    subst (λ (k : ℕ). c.loop-i.i < k) (c.len-i-end.ensures ∙ c.in_ok-facts.field-0.facts.ok.0) c.loop-i-test.true in
     let few = few-facts fs c.args.history.now c.in_ok-facts.ensures.facts c.in_ok-facts.ensures.of_run in
     let here = c.fact.view_is ∙ get_or_read fs c.loop-i.i c.index-fact.result.now less c.index-fact.ensures no_fact in
-    let known = known-thread fs c.args.history.now c.loop-i.i c.in_ok-facts.ensures.facts c.in_ok-facts.ensures.of_run less in
-    let same = c.from-in-loop-i.ensures ∙ ap (λ (f : Fact). f.thread) here in
-    let counts = c.loop-i.invariant.numbers c.from-in-loop-i.result (omega arith) in
+    let low =
+    low-thread fs c.args.history.now c.loop-i.i c.from-in-loop-i.result c.in_ok-facts.ensures.facts
+    c.in_ok-facts.ensures.of_run less (c.from-in-loop-i.ensures ∙ ap (λ (f : Fact). f.thread) here) in
+    let counts = c.loop-i.invariant.numbers c.from-in-loop-i.result low in
     let most = count-few (λ k. eqb (fact_at fs k).thread c.from-in-loop-i.result) c.loop-i.i in
     omega arith
 
@@ -139,11 +150,11 @@ loop-i-preserved c =
     let fs = c.in_ok-facts.field-0.facts.items in
     let i = c.loop-i.i in
     let r = c.deref-in-loop-i-2.result.now in
-    let less : i < length fs = omega arith in
+    let less = subst (λ (k : ℕ). i < k) (c.len-i-end.ensures ∙ c.in_ok-facts.field-0.facts.ok.0) c.loop-i-test.true in
     let here = c.fact.view_is ∙ get_or_read fs i c.index-fact.result.now less c.index-fact.ensures no_fact in
-    let known = known-thread fs h i c.in_ok-facts.ensures.facts c.in_ok-facts.ensures.of_run less in
     let same = c.from-in-loop-i.ensures ∙ ap (λ (f : Fact). f.thread) here in
     let own = c.from.ensures ∙ ap (λ (f : Fact). f.thread) here in
+    let low = λ (t : ℕ). low-thread fs h i t c.in_ok-facts.ensures.facts c.in_ok-facts.ensures.of_run less in
     let long = c.loop-i.invariant.long in
     let at : slice_get h.records i ≡ Some r =
     ap (λ rs. slice_get rs i) (sym c.records-records.ensures.records) ∙ c.at.ensures
@@ -152,7 +163,8 @@ loop-i-preserved c =
     ap (λ (xs : List Fact). (fact_at xs i).written) c.in_ok-facts.ensures.facts ∙ fact-written h i r at in
     record {
       numbers = λ t in_range.
-          count-next fs c.loop-i.numbers i c.from-in-loop-i.result t same (omega arith)
+          count-next fs c.loop-i.numbers i c.from-in-loop-i.result t same
+          (subst (λ (k : ℕ). c.from-in-loop-i.result < k) (sym long) (low c.from-in-loop-i.result same))
           (c.loop-i.invariant.numbers t in_range);
       long = length-set c.loop-i.numbers c.from-in-loop-i.result _ ∙ long;
       many =
@@ -163,19 +175,19 @@ loop-i-preserved c =
         | inl early ↦
             subst (IsStep fs (reads_of h) c.args.pages j)
             (sym (ap (λ (xs : List Step). get_or xs j s) c.in_ok-push.ensures.items
-            ∙ get_or_append_left c.loop-i.steps.items _ s j (let many = c.loop-i.invariant.many in omega arith)))
+            ∙ get_or_append_left c.loop-i.steps.items _ s j (subst (λ (k : ℕ). j < k) (sym c.loop-i.invariant.many) early)))
             (c.loop-i.invariant.each j s early)
         | inr late ↦
-            let here_j : i ≡ j = omega arith in
+            let here_j = last-place i j late below in
             subst (λ (k : ℕ). IsStep fs (reads_of h) c.args.pages k (get_or c.push.new.self.items k s)) here_j
             (subst (IsStep fs (reads_of h) c.args.pages i)
             (sym (ap (λ (xs : List Step). get_or xs i s) c.in_ok-push.ensures.items
             ∙ get_or_push c.loop-i.steps.items _ s i c.loop-i.invariant.many))
             (record {
               thread = ap (λ (f : Fact). f.thread) here;
-              known = (let is = ap (λ (f : Fact). f.thread) here in omega arith);
+              known = low _ (ap (λ (f : Fact). f.thread) here);
               number =
-                  c.loop-i.invariant.numbers c.from.result (omega arith)
+                  c.loop-i.invariant.numbers c.from.result (low c.from.result own)
                   ∙ ap (λ (t : ℕ). count_below (λ k. eqb (fact_at fs k).thread t) i) own;
               seen = λ t in_range.
                   c.seen.ensures t in_range ∙ ap (λ (xs : List Fact). seen_at xs i t) c.deref-in-loop-i.ensures.value;
@@ -194,5 +206,5 @@ returns-clause-steps c =
     c.in_ok-facts.ensures.facts
     (record {
       many = c.loop-i.invariant.many ∙ end;
-      each = λ j s less. c.loop-i.invariant.each j s (omega arith);
+      each = λ j s less. c.loop-i.invariant.each j s (subst (λ (k : ℕ). j < k) (sym end) less);
     })
