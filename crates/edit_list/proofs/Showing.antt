@@ -1,7 +1,7 @@
 -- What a buffer shows of an input, byte by byte.
-use Rattle.std.proofs.Common.{◌≡◌, ◌≤◌, ◌<◌, ℕ, ◌+◌, ◌-◌, min, List, ◌++◌, length, take, replicate, get_or, sym, ◌∙◌, arith, inl, inr, ◌⊎◌}
+use Rattle.std.proofs.Common.{◌≡◌, ◌≤◌, ◌<◌, ℕ, ◌+◌, ◌-◌, min, List, ◌++◌, length, take, drop, replicate, get_or, sym, ◌∙◌, arith, inl, inr, ◌⊎◌}
 use Rattle.std.proofs.lemmas.Grind.{common_steps}
-use Rattle.std.proofs.lemmas.List.{ext_get_or}
+use Rattle.std.proofs.lemmas.List.{ext_get_or, take_all, take-append-le}
 use Rattle.edit_list.specs.Showing.{Shows}
 
 at-end : (input : List ℕ) (p : ℕ) → length input ≤ p → get_or input p 0 ≡ 0
@@ -40,3 +40,19 @@ shows-cleared buffer input kept fits shows p = (low, high)
           | inl under ↦ at-front under ∙ (shows p).0 (omega arith) ∙ at-end input p (omega arith)
           | inr past ↦ at-back past
         ]
+
+-- an input that was cut, or made longer with zeros, shows itself
+pub shows-resized :
+    (buffer input : List ℕ) (size len : ℕ) → buffer ≡ take size input ++ replicate (size - len) 0 → len ≡ length input
+    → Shows buffer input (length buffer)
+shows-resized buffer input size len is count p = (low, at-end buffer p)
+  where
+    low : p < length buffer → get_or buffer p 0 ≡ get_or input p 0
+    low under = rw is (grind (arith, common_steps))
+
+-- bytes that were written over all those of a list
+pub written-over :
+    (written items : List ℕ) (len : ℕ) → length written ≡ length items → len ≡ length items
+    → take len (written ++ drop (length written) items) ≡ written
+written-over written items len same count =
+    take-append-le len written (drop (length written) items) (omega arith) ∙ take_all len written (omega arith)
