@@ -75,7 +75,7 @@ impl Clock {
         theirs.simd_le(mine).all()
     }
 
-    /// Counts one step more of thread `t`, of which there are no more than a run's most steps.
+    /// Counts one more step of thread `t`, whose count is below the most steps of a run.
     pub fn tick(&mut self, t: u8)
         requires thread { t < THREADS }
         requires room { slice_index self.old t < MOST_STEPS }
