@@ -1,8 +1,7 @@
 -- Clocks to which another is joined, one key after the other.
 use Rattle.std.proofs.Common.{◌≡◌, ◌≢◌, ◌<◌, ◌+◌, ℕ, Bool, true, false, ◌||◌, ◌⊎◌, eqb, List, length, take, slice_index, get_or, refl, ap, sym, ◌∙◌, subst, inl, inr, arith}
 use Rattle.std.proofs.lemmas.List.Folds.{list_any_more}
-use Rattle.std.proofs.lemmas.Bool.{cases_eq, eq-eqb}
-use Rattle.std.proofs.lemmas.Bool.Decides.{nat_tests}
+use Rattle.std.proofs.lemmas.Bool.{cases_eq, eq-eqb, ne_eqb}
 use Rattle.history_spec.specs.Before.{is_in}
 use Rattle.history_spec.proofs.Lists.{or-left, or-right, is_or_not}
 use Rattle.depend_graph.specs.Clocks.{IsLargerOf}
@@ -52,7 +51,7 @@ added-more has before now after clock keys i below done at others =
         let new = subst (λ (x : ℕ). has x → IsLargerOf (after x) (now x) clock) same at there t in
         omega arith
     at_key k there is (inr other) earlier =
-        let apart : eqb (get_or keys i 0) k ≡ false = grind (arith, nat_tests) in
+        let apart : eqb (get_or keys i 0) k ≡ false = ne_eqb (get_or keys i 0) k other in
         let split : (is_in k (take i keys) || eqb (get_or keys i 0) k) ≡ true =
         sym (list_any_more (λ n. eqb n k) keys i 0 below) ∙ is in
         let was : is_in k (take i keys) ≡ true =

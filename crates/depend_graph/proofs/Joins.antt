@@ -2,8 +2,7 @@
 use Rattle.std.proofs.Common.{◌≡◌, ◌≢◌, ◌<◌, ◌≤◌, ◌+◌, ℕ, zero, suc, max, Bool, true, false, ◌&&◌, ◌||◌, not, ◌⊎◌, eqb, ltb, cond, List, length, slice_index, refl, ap, sym, ◌∙◌, subst, inl, inr, arith}
 use Rattle.std.proofs.Math.ListN.{set}
 use Rattle.std.proofs.lemmas.List.{get_or-set_other, get_or-set_same}
-use Rattle.std.proofs.lemmas.Bool.{cases_eq, cases_lt, eq-eqb, eqb-true}
-use Rattle.std.proofs.lemmas.Bool.Decides.{nat_tests}
+use Rattle.std.proofs.lemmas.Bool.{cases_eq, cases_lt, eq-eqb, eqb-true, ne_eqb, le-ltb}
 use Rattle.guest_call.specs.declared.thread_number.TheConstants.{THREADS}
 use Rattle.history_spec.specs.Facts.{Fact}
 use Rattle.history_spec.specs.Before.{fact_at, before_at}
@@ -87,7 +86,7 @@ no-step_after fs i k up =
     elim (cases_eq k i) [
       | inl same ↦ omega arith
       | inr other ↦
-          let isnt : eqb k i ≡ false = grind (arith, nat_tests) in
+          let isnt : eqb k i ≡ false = ne_eqb k i other in
           let ancestor : is_ancestor fs k i ≡ true = rw isnt at up in
           let earlier = bit-lt k i (and-left (ltb k i) (reaches fs i k i) ancestor) in
           omega arith
@@ -98,8 +97,8 @@ up_to-own fs n = or-in_left (eqb n n) (is_ancestor fs n n) (eq-eqb n n refl)
 
 up_to-later : (fs : List Fact) (i n : ℕ) → i < n → is_up_to fs i n ≡ false
 up_to-later fs i n below =
-    let apart : eqb n i ≡ false = grind (arith, nat_tests) in
-    let after : ltb n i ≡ false = grind (arith, nat_tests) in
+    let apart : eqb n i ≡ false = ne_eqb n i (λ same. omega arith) in
+    let after : ltb n i ≡ false = le-ltb n i (omega arith) in
     rw (apart, after) refl
 
 -- if a step is up to some that pass a test, it is up to some that pass a wider one
@@ -216,7 +215,7 @@ before-up_to :
     (fs : List Fact) (n k : ℕ) → k < n → is_up_to fs n k ≡ true → is_up_to_some fs (λ i. before_at fs i n) n k ≡ true
 before-up_to fs zero k below up = absurd (omega arith)
 before-up_to fs (suc m) k below up =
-    let apart : eqb k (suc m) ≡ false = grind (arith, nat_tests) in
+    let apart : eqb k (suc m) ≡ false = ne_eqb k (suc m) (λ same. omega arith) in
     let ancestor : is_ancestor fs k (suc m) ≡ true = rw apart at up in
     let chain = and-right (ltb k (suc m)) (reaches fs (suc m) k (suc m)) ancestor in
     or-cases (before_at fs k (suc m)) (any_below (λ i. ltb k i && (reaches fs m k i && before_at fs i (suc m))) (suc m))
@@ -256,7 +255,7 @@ up_to-before fs n k below up =
       | inl same ↦
           let chain = bounded fs 1 k n below (link fs 0 k n (rw (← same) at last)) in rw (bit, chain) refl
       | inr other ↦
-          let apart : eqb k some.at ≡ false = grind (arith, nat_tests) in
+          let apart : eqb k some.at ≡ false = ne_eqb k some.at other in
           let ancestor : is_ancestor fs k some.at ≡ true = rw apart at at_most in
           let earlier = bit-lt k some.at (and-left (ltb k some.at) (reaches fs some.at k some.at) ancestor) in
           let part = and-right (ltb k some.at) (reaches fs some.at k some.at) ancestor in
@@ -386,7 +385,7 @@ join-add fs p n a b c own larger join clock =
     let here : eqb n n ≡ true = eq-eqb n n refl in
     let before : IsJoinOf fs others n a =
     join-same fs p others n a
-    (λ i below is. let apart : eqb i n ≡ false = grind (arith, nat_tests) in rw (is, apart) refl)
+    (λ i below is. let apart : eqb i n ≡ false = ne_eqb i n (λ same. omega arith) in rw (is, apart) refl)
     (λ i below is. and-left (p i) (not (eqb i n)) is) join in
     let kept = join-stay fs others n a (rw (own, here) refl) before in
     let alone_now : IsJoinOf fs (λ i. eqb i n)
@@ -459,7 +458,7 @@ ticked-counts before clock t long few ticked u low =
           let here = get_or-set_same before t (slice_index before t + 1) 0 (omega arith) in
           rw (own, ticked, ← same, here) (omega arith)
       | inr other ↦
-          let apart : eqb t u ≡ false = grind (arith, nat_tests) in
+          let apart : eqb t u ≡ false = ne_eqb t u other in
           let away : u ≢ t = λ same. other (sym same) in
           let there = get_or-set_other before t u (slice_index before t + 1) 0 away in
           rw (apart, ticked, there) (omega arith)

@@ -5,8 +5,7 @@ use Rattle.std.proofs.Math.ListN.{set}
 use Rattle.std.proofs.lemmas.List.{get_or-set_other, get_or-set_same, length-set}
 use Rattle.std.proofs.lemmas.List.Quantifiers.{position-Some}
 use Rattle.std.proofs.lemmas.List.Sums.{fails_before_first}
-use Rattle.std.proofs.lemmas.Bool.{eq-eqb}
-use Rattle.std.proofs.lemmas.Bool.Decides.{nat_tests}
+use Rattle.std.proofs.lemmas.Bool.{eq-eqb, ltb-false}
 use Rattle.guest_call.specs.declared.Object.{Object}
 use Rattle.guest_call.specs.declared.Object.TheVariants.{Output, ThreadTable, Mutex, Semaphore, Barrier, Condition, RwLock}
 use Rattle.guest_call.specs.Locality.{same_object}
@@ -84,7 +83,7 @@ without cs o d none k below =
         → cond (ltb (position_or_len (is_named o) cs) (length cs)) (Some (position_or_len (is_named o) cs)) None ≡ None
         → k < position_or_len (is_named o) cs
     here true is none = (let clash = rw is at none in cc)
-    here false is none = grind (arith, nat_tests)
+    here false is none = omega (arith, ltb-false (position_or_len (is_named o) cs) (length cs) is, below)
 
 pub clock-none : (cs : List ObjectClock) (o : Object) → position (is_named o) cs ≡ None → object_clock_in cs o ≡ []
 clock-none cs o none =

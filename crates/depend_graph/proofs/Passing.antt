@@ -1,7 +1,6 @@
 -- After one more step, the clocks are joined by what the steps did, as before.
 use Rattle.std.proofs.Common.{◌≡◌, ◌≢◌, ◌<◌, ℕ, zero, suc, Bool, true, false, ◌&&◌, ◌||◌, not, eqb, leb, List, slice_index, refl, ap, sym, ◌∙◌, subst, inl, inr, arith}
-use Rattle.std.proofs.lemmas.Bool.{cases_eq, eq-eqb}
-use Rattle.std.proofs.lemmas.Bool.Decides.{nat_tests}
+use Rattle.std.proofs.lemmas.Bool.{cases_eq, eq-eqb, eqb-true, ne_eqb, le-leb, lt-leb}
 use Rattle.guest_call.specs.declared.thread_number.TheConstants.{THREADS}
 use Rattle.guest_call.specs.declared.Object.{Object}
 use Rattle.guest_call.specs.Locality.{is_among}
@@ -74,7 +73,7 @@ gives-own : (fs : List Fact) (n t : ℕ) → gives fs (suc n) t n ≡ is_in t (f
 gives-own fs n t =
     let all =
     all-true (λ k. leb k n || not (eqb (fact_at fs k).thread t)) (suc n)
-    (λ k low. let le : leb k n ≡ true = grind (arith, nat_tests) in rw le refl) in
+    (λ k low. let le : leb k n ≡ true = le-leb k n (omega arith) in rw le refl) in
     rw all (and-true (is_in t (fact_at fs n).given))
   where
     and-true : (b : Bool) → (b && true) ≡ b
@@ -86,7 +85,7 @@ gives-later :
     → gives fs (suc n) t i
     ≡ (is_in t (fact_at fs i).given
     && (not (eqb (fact_at fs n).thread t) && all_below (λ k. leb k i || not (eqb (fact_at fs k).thread t)) n))
-gives-later fs n t i low = let later : leb n i ≡ false = grind (arith, nat_tests) in rw later refl
+gives-later fs n t i low = let later : leb n i ≡ false = lt-leb n i low in rw later refl
 
 mid-given :
     (fs : List Fact) (n : ℕ) (past : Past) (f : Fact) (cleared : ThreadClocks) (t : ℕ)
@@ -117,8 +116,7 @@ mid-given fs n past f cleared t here few zeros others of =
     away : f.thread ≢ t → eqb (fact_at fs n).thread t ≡ false
     away other =
         let is = ap (λ (x : Fact). x.thread) here in
-        let apart : (fact_at fs n).thread ≢ t = λ same. other (is ∙ same) in
-        grind (arith, nat_tests)
+        ne_eqb (fact_at fs n).thread t (λ same. other (is ∙ same))
 
 -- one more step is past
 passed-own :
@@ -151,7 +149,7 @@ passed-own fs n past after clock of own passed =
     at_thread :
         (t : ℕ) → is_of fs t n ≡ true → IsLargerOf (thread_clock after.threads t) (thread_clock past.threads t) clock
     at_thread t is =
-        let same : (fact_at fs n).thread ≡ t = grind (arith, nat_tests) in
+        let same : (fact_at fs n).thread ≡ t = eqb-true (fact_at fs n).thread t is in
         subst (λ (x : ℕ). IsLargerOf (thread_clock after.threads x) (thread_clock past.threads x) clock) same
         passed.thread_at
 

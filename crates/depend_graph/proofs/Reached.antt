@@ -1,8 +1,7 @@
 -- One more step of those that changed pages reach, and whether the next step is reached.
 use Rattle.std.proofs.Common.{◌≡◌, ◌≢◌, ◌<◌, ◌≤◌, ℕ, zero, suc, Bool, true, false, ◌&&◌, ◌||◌, not, eqb, leb, ltb, cond, List, [], ◌∷◌, slice_index, slice_index_or, refl, ap, ap₂, sym, ◌∙◌, inl, inr, arith}
 use Rattle.std.specs.List.{list_any, list_all}
-use Rattle.std.proofs.lemmas.Bool.{cases_eq, eq-eqb, eqb-true}
-use Rattle.std.proofs.lemmas.Bool.Decides.{nat_tests}
+use Rattle.std.proofs.lemmas.Bool.{cases_eq, eq-eqb, eqb-true, ne_eqb, le-leb, lt-leb, lt-ltb, ltb-true}
 use Rattle.guest_call.specs.declared.thread_number.TheConstants.{THREADS}
 use Rattle.history_spec.specs.Facts.{Fact}
 use Rattle.history_spec.specs.Before.{is_in, meets, fact_at, all_below}
@@ -64,7 +63,7 @@ listed-some test (j ∷ ks) k listed is =
     elim (cases_eq j k) [
       | inl same ↦ or-in_left (test j) (list_any test ks) (ap test same ∙ is)
       | inr other ↦
-          let no : eqb j k ≡ false = grind (arith, nat_tests) in
+          let no : eqb j k ≡ false = ne_eqb j k other in
           or-in_right (test j) (list_any test ks) (listed-some test ks k (rw no at listed) is)
     ]
 
@@ -94,21 +93,21 @@ last-like p q (suc n) same =
 all-early : (fs : List Fact) (t i n : ℕ) → n ≤ i → all_below (λ k. leb k i || not (eqb (fact_at fs k).thread t)) n ≡ true
 all-early fs t i zero low = refl
 all-early fs t i (suc n) low =
-    let early : leb n i ≡ true = grind (arith, nat_tests) in
+    let early : leb n i ≡ true = le-leb n i (omega arith) in
     rw early (all-early fs t i n (omega arith))
 
 module _ (fs : List Fact) (n t : ℕ) where
   -- no step comes after the step itself
   own-last : all_below (λ k. leb k n || not (eqb (fact_at fs k).thread t)) (suc n) ≡ true
   own-last =
-      let early : leb n n ≡ true = grind (arith, nat_tests) in
+      let early : leb n n ≡ true = le-leb n n (omega arith) in
       rw early (all-early fs t n n (omega arith))
 
   -- an earlier step isn't the last one any more if it is of the same thread, and else is as before
   past-own : (i : ℕ) → i < n → (fact_at fs n).thread ≡ t
       → all_below (λ k. leb k i || not (eqb (fact_at fs k).thread t)) (suc n) ≡ false
   past-own i less own =
-      let late : leb n i ≡ false = grind (arith, nat_tests) in
+      let late : leb n i ≡ false = lt-leb n i less in
       let is : eqb (fact_at fs n).thread t ≡ true = eq-eqb (fact_at fs n).thread t own in
       rw (late, is) refl
 
@@ -116,7 +115,7 @@ module _ (fs : List Fact) (n t : ℕ) where
       → all_below (λ k. leb k i || not (eqb (fact_at fs k).thread t)) (suc n)
       ≡ all_below (λ k. leb k i || not (eqb (fact_at fs k).thread t)) n
   past-other i less other =
-      let isnt : eqb (fact_at fs n).thread t ≡ false = grind (arith, nat_tests) in
+      let isnt : eqb (fact_at fs n).thread t ≡ false = ne_eqb (fact_at fs n).thread t other in
       rw (isnt, or-true (leb n i)) refl
 
 -- whether the last step of a thread is reached
@@ -134,7 +133,7 @@ led-more fs reached n t =
           ∙ none-below n in
           rw (rest, own-last fs n t, is) (kept (reached n))
       | inr other ↦
-          let isnt : eqb (fact_at fs n).thread t ≡ false = grind (arith, nat_tests) in
+          let isnt : eqb (fact_at fs n).thread t ≡ false = ne_eqb (fact_at fs n).thread t other in
           let rest : any_below (λ i. reached i && is_last fs (suc n) t i) n
           ≡ any_below (λ i. reached i && is_last fs n t i) n =
           any-like (λ i. reached i && is_last fs (suc n) t i) (λ i. reached i && is_last fs n t i) n
@@ -171,7 +170,7 @@ ends-more fs n t =
           (λ i less. rw (past-own fs n t i less own) (and-false (is_in t (fact_at fs i).given)))
           ∙ last-none n)
       | inr other ↦
-          let isnt : eqb (fact_at fs n).thread t ≡ false = grind (arith, nat_tests) in
+          let isnt : eqb (fact_at fs n).thread t ≡ false = ne_eqb (fact_at fs n).thread t other in
           rw isnt
           (last-like (gives fs (suc n) t) (gives fs n t) n
           (λ i less. ap (λ (b : Bool). is_in t (fact_at fs i).given && b) (past-other fs n t i less other)))
@@ -230,7 +229,7 @@ module _ (fs : List Fact) (reads : List (List ℕ)) (pages : List ℕ) (n : ℕ)
   comes w p early wrote read =
       let both = meets-of p (fact_at fs w).written (read_at reads n) wrote read in
       let given : any_below (λ g. leb w g && gave_at fs g n) n ≡ true =
-      last-tells (λ g. gave_at fs g n) w n ∙ (let is : ltb w (giver_end fs n) ≡ true = grind (arith, nat_tests) in is) in
+      last-tells (λ g. gave_at fs g n) w n ∙ lt-ltb w (giver_end fs n) early in
       rw (given, both) refl
 
   by-leading : any_below (λ i. reached i && leads_to fs reads i n) n ≡ true → reached n ≡ true
@@ -258,7 +257,7 @@ module _ (fs : List Fact) (reads : List (List ℕ)) (pages : List ℕ) (n : ℕ)
             let one : reached some.at ≡ true = and-left (reached some.at) _ some.is in
             let rest = and-right (reached some.at) _ some.is in
             let is : ltb some.at (giver_end fs n) ≡ true = and-left (ltb some.at (giver_end fs n)) _ rest in
-            let early : some.at < giver_end fs n = grind (arith, nat_tests) in
+            let early : some.at < giver_end fs n = ltb-true some.at (giver_end fs n) is in
             let wrote = and-right (ltb some.at (giver_end fs n)) _ rest in
             by-leading
             (below-some (λ i. reached i && leads_to fs reads i n) n some.at some.below
