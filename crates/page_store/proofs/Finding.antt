@@ -1,14 +1,23 @@
 -- One page of a memory into which a delta was written.
-use Rattle.std.proofs.Common.{◌≡◌, ◌≢◌, ℕ, ◌<◌, ◌≤◌, zero, suc, true, List, [], ◌∷◌, length, drop, set, refl, sym, ap, ◌∙◌, arith, inl, inr}
+use Rattle.std.proofs.Common.{◌≡◌, ◌≢◌, ℕ, ◌+◌, ◌<◌, ◌≤◌, zero, suc, true, List, [], ◌∷◌, length, get_or, drop, set, refl, sym, ap, ◌∙◌, arith, inl, inr}
 use Rattle.std.proofs.lemmas.Bool.{and_parts, cases_eq, leb-true}
 use Rattle.std.proofs.lemmas.List.{length-set, get_or-set_same, get_or-set_other}
+use Rattle.std.proofs.Math.Seq.{drop-cons}
 use Rattle.memory_spec.specs.Pages.{Memory, page_of}
 use Rattle.thunk_spec.specs.Delta.{PageDelta, spread, masked}
 use Rattle.thunk_spec.specs.Ascending.{deltas_ascend}
 
 -- the memory after one delta
-abbrev with_delta : Memory → PageDelta → Memory
+abbrev pub with_delta : Memory → PageDelta → Memory
 with_delta m d = set m d.slot (spread d.mask d.bytes (page_of m d.slot))
+
+-- the deltas from one on
+pub split :
+    (delta : List PageDelta) (i : ℕ) (d : PageDelta) → d ≡ get_or delta i d → i < length delta
+    → drop i delta ≡ d ∷ drop (i + 1) delta
+split delta i d is lt =
+    let next : suc i ≡ i + 1 = omega arith in
+    drop-cons delta i d lt ∙ ap (λ e. e ∷ drop (suc i) delta) (sym is) ∙ ap (λ k. d ∷ drop k delta) next
 
 -- deltas of later pages don't change it
 above :

@@ -1,17 +1,10 @@
 -- Answers to the goals that the check of `committed_page` leaves open.
-use Rattle.std.proofs.Common.{◌≡◌, ℕ, ◌+◌, ◌<◌, suc, List, ◌∷◌, length, get_or, drop, sym, ap, ◌∙◌, arith}
-use Rattle.std.proofs.Math.Seq.{drop-cons}
+use Rattle.std.proofs.Common.{◌≡◌, ◌+◌, drop, sym, ap, ◌∙◌}
 use Rattle.memory_spec.specs.Pages.{page_of}
-use Rattle.thunk_spec.specs.Delta.{PageDelta, masked, spread}
+use Rattle.thunk_spec.specs.Delta.{masked, spread}
 use Rattle.thunk_spec.specs.Ascending.{deltas_ascend}
-use Rattle.page_store.proofs.Finding.{passed, found}
+use Rattle.page_store.proofs.Finding.{split, passed, found}
 use Rattle.page_store.proofs.committing.committed_page.Goals as goal
-
-split : (delta : List PageDelta) (i : ℕ) (d : PageDelta) → d ≡ get_or delta i d → i < length delta
-    → drop i delta ≡ d ∷ drop (i + 1) delta
-split delta i d is lt =
-    let next : suc i ≡ i + 1 = omega arith in
-    drop-cons delta i d lt ∙ ap (λ e. e ∷ drop (suc i) delta) (sym is) ∙ ap (λ k. d ∷ drop k delta) next
 
 pub returns-then-slot : goal.returns-then-slot
 returns-then-slot c =
