@@ -1,5 +1,5 @@
 -- The touched slots, after one of them changed or one more was touched.
-use Rattle.std.proofs.Common.{◌≡◌, ℕ, ◌<◌, ◌≤◌, ◌^◌, suc, ◌⊎◌, Bool, true, false, IsTrue, IsFalse, List, [], ◌∷◌, ◌++◌, length, get_or, set, replicate, inl, inr, Option, Some, None, Result, Ok, Err, MatchResult, Vec, refl, ap, sym, subst, ◌∙◌, arith}
+use Rattle.std.proofs.Common.{◌≡◌, ℕ, ◌<◌, ◌≤◌, ◌^◌, suc, ◌⊎◌, Bool, true, false, IsTrue, IsFalse, List, [], ◌∷◌, ◌++◌, length, get_or, set, replicate, inl, inr, Option, Some, None, Result, Ok, Err, IsErr, MatchResult, Vec, refl, ap, sym, subst, ◌∙◌, arith}
 use Rattle.std.proofs.lemmas.Bool.{cases_eq, cases_lt}
 use Rattle.std.proofs.lemmas.List.{get_or-map, get_or-set_same, get_or-set_other, get_or_append_left, get_or_past, get_or_default, set-get_or, ext_get_or, length-map, length-set, length-append, with_items_is}
 use Rattle.std.proofs.Math.Seq.{get_or-append_seam}
@@ -10,7 +10,7 @@ use Rattle.priv_space.specs.declared.slot.Slot.{Slot}
 use Rattle.priv_space.specs.declared.slot.Access.{Access}
 use Rattle.priv_space.specs.declared.slots.TheConstants.{LISTED}
 use Rattle.priv_space.specs.Slots.{untouched, SharesPage, IsPermitted, IsOver}
-use Rattle.priv_space.specs.Held.{held_at, all_held, IsHeld, PlacesSlot, FindsNext, FindsLeast}
+use Rattle.priv_space.specs.Held.{held_at, all_held, IsHeld, HoldsSlot, PlacesSlot, FindsNext, FindsLeast}
 use Rattle.priv_space.specs.Changes.{OnSlot, StoresAgain}
 use Rattle.priv_space.proofs.Views.{map-replicate}
 
@@ -286,6 +286,31 @@ pub placed-held :
 placed-held {held = held} {listed = listed} {places = places} v placed fits =
     subst (λ q. IsHeld listed q held) (sym (with_items_is v places fits)) placed.each
 
+-- and all slots are as before
+pub placed-same :
+    {X : Type 0} {slots old held : List Slot} {listed before places : List ℕ} {i : ℕ} {r : Result ℕ AllocError}
+    (v : Vec ℕ X)
+    → all_held v.items old ≡ slots → before ≡ v.items → PlacesSlot i listed before places old held r
+    → length places ≡ v.len
+    → all_held (with_items v places).items held ≡ slots
+placed-same {old = old} {held = held} {places = places} v was seen placed fits =
+    ap (λ q. all_held q held) (with_items_is v places fits) ∙ placed.same ∙ ap (λ p. all_held p old) seen ∙ was
+
+-- a search for a place is made for a slot of such places
+pub holds-slot :
+    {slots held : List Slot} {listed places items : List ℕ} {i : ℕ}
+    → all_held items held ≡ slots → IsHeld listed items held → i < length slots → places ≡ items
+    → HoldsSlot i listed places held
+holds-slot {held = held} {listed = listed} {items = items} was each within seen = record {
+  each = subst (λ q. IsHeld listed q held) (sym seen) each;
+  within = omega (arith, ap length was, ap length seen, length-all_held items held);
+}
+
+-- what is to be shown of a call that failed
+pub failed : {T E : Type 0} (r : Result T E) (P : T → Type 0) (Q : Type 0) → IsErr r → Q → MatchResult r P (λ _. Q)
+failed (Ok x) P Q err q = absurd (cc)
+failed (Err e) P Q err q = q
+
 -- the slot before the change shares the view's page, as each slot does
 pub shared-put :
     {slots held : List Slot} {listed places : List ℕ} {i : ℕ} {x s : Slot} (view : Memory)
@@ -305,14 +330,19 @@ change-put Change {slots} {held} {listed} {places} {i} {x} {s} p change =
           subst (λ y. Change y (get_or (all_held places held) i untouched)) p.was (subst (Change x) (sym now) change);
     }
 
+-- and none if the slot stays as it is
+pub stays-put :
+    {slots held : List Slot} {listed places : List ℕ} {i : ℕ} {x s : Slot}
+    → IsPut slots listed places held i x s → s ≡ x → all_held places held ≡ slots
+stays-put {slots} {i = i} p stays = p.all ∙ ap (set slots i) (stays ∙ p.was) ∙ set-get_or slots i untouched
+
 -- and of a call that may fail, which then changes nothing
 pub outcome-put :
     {T E : Type 0} (Change : T → Slot → Slot → Type 0) {slots held : List Slot} {listed places : List ℕ} {i : ℕ} {x s : Slot}
     (r : Result T E) → IsPut slots listed places held i x s → MatchResult r (λ value. Change value x s) (λ error. s ≡ x)
     → MatchResult r (λ value. OnSlot i (Change value) slots (all_held places held)) (λ error. all_held places held ≡ slots)
 outcome-put Change (Ok value) p done = change-put (Change value) p done
-outcome-put Change {slots} {i = i} (Err error) p stays =
-    p.all ∙ ap (set slots i) (stays ∙ p.was) ∙ set-get_or slots i untouched
+outcome-put Change (Err error) p stays = stays-put p stays
 
 -- a slot that wasn't touched has no own copy to store to
 pub still-untouched :
