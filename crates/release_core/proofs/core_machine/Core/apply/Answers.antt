@@ -1,9 +1,7 @@
 -- Answers to the goals that the check of `Core::apply` leaves open.
-use Rattle.std.proofs.Common.{◌≡◌, ℕ, true, ◌+◌, suc, ◌++◌, slice_set, refl, ap, sym, subst, ◌∙◌, arith}
-use Rattle.std.proofs.lemmas.Grind.{common_steps}
+use Rattle.std.proofs.Common.{◌≡◌, ◌<◌, ◌≤◌, ◌-◌, ◌^◌, ℕ, true, ◌+◌, suc, List, ◌++◌, slice_set, Fits, w32, refl, add-one, ap, sym, subst, ◌∙◌, arith}
 use Rattle.std.specs.Arc.{arc_value}
-use Rattle.thunk_spec.specs.Delta.{masked}
-use Rattle.thunk_spec.specs.Record.{Record, put_of}
+use Rattle.thunk_spec.specs.Record.{put_of}
 use Rattle.machine_spec.specs.Machine.{Machine, Hart, hart_in, hart_of, is_ready}
 use Rattle.machine_spec.proofs.Harts.{ready-below}
 use Rattle.std.proofs.lemmas.Bool.{and_parts}
@@ -11,10 +9,41 @@ use Rattle.std.proofs.lemmas.List.{get_or-set_same}
 use Rattle.machine_spec.specs.Step as step
 use Rattle.machine_spec.specs.Whole.{IsWhole}
 use Rattle.machine_spec.proofs.Tied.{tied-written}
+use Rattle.machine_calls.proofs.Asking.{view_count, few_numbers}
 use Rattle.machine_calls.specs.Doing.{harts_after, objects_after, own_end}
 use Rattle.history_spec.proofs.Applying.{apply-whole}
 use Rattle.release_core.proofs.Applying.{applied-parts}
 use Rattle.release_core.proofs.core_machine.Core.apply.Goals as goal
+
+-- the thread of a record that can be applied is ready
+ready_now :
+    (m now : Machine) (t thread : ℕ)
+    → m ≡ now → t ≡ thread → step.can_step now thread ≡ true → is_ready (hart_in m.harts t).status ≡ true
+ready_now m now t thread same is can =
+    let ready : step.can_step m t ≡ true = rw (same, is) can in
+    (and_parts _ _ ready).1
+
+-- it has room for a step more, and the machine for one in all
+number_fits : (m : Machine) (t : ℕ) → IsWhole m → is_ready (hart_in m.harts t).status ≡ true
+    → (hart_in m.harts t).number < 2 ^ 32 - 1
+number_fits m t whole ready = omega (arith, few_numbers m t whole ready)
+
+steps_fit : (m : Machine) → IsWhole m → Fits w32 (m.steps + 1)
+steps_fit m whole = omega (arith, whole.few_steps, whole.limits.most_steps)
+
+room_for_one : (n room : ℕ) → n + 1 ≤ room → n < room
+room_for_one n room fits = omega arith
+
+-- a machine with the same harts and output is the same
+unchanged :
+    (m : Machine) (harts : List Hart) (output : List ℕ) → harts ≡ m.harts → output ≡ m.output
+    → record m { harts = harts; output = output } ≡ m
+unchanged m harts output same as_before = rw (same, as_before) refl
+
+kept_whole :
+    (m : Machine) (harts : List Hart) (output : List ℕ) → IsWhole m → harts ≡ m.harts → output ≡ m.output
+    → IsWhole (record m { harts = harts; output = output })
+kept_whole m harts output whole same as_before = subst IsWhole (sym (unchanged m harts output same as_before)) whole
 
 -- the machine before, by its parts
 abbrev before : goal.After-drop-put-2 → Machine
@@ -45,97 +74,40 @@ applied :
     }
     ≡ step.apply (before c) c.args.rec.now
 applied c =
-    let r : Record = c.args.rec.now in
-    let m : Machine = before c in
-    let is_memory : arc_value c.in_ok-memory.field-0.memory ≡ masked
-    (arc_value c.self.inside.memory) c.args.rec.now.kept.delta =
-    grind (
-      arith,
-      common_steps,
-      c.in_ok-memory.ensures.memory,
-      c.in_ok-memory.memory-is,
-    ) in
     let is_written :
     c.write_back.new.harts.items
     ≡ slice_set c.self.inside.harts.items c.args.rec.now.thread
-    (record {
-      view = (hart_of (before c) c.args.rec.now.thread).view;
-      regs = c.args.rec.now.kept.finish;
-      number =
-          suc (hart_of (before c) c.args.rec.now.thread).number;
-      status =
-          (hart_of (before c) c.args.rec.now.thread).status;
-    }) =
-    grind (
-      arith,
-      common_steps,
-      c.write_back.ensures.harts,
-      c.in_ok-reserve.ensures.items,
-      c.thread-t.ensures,
-      c.finish.ensures,
-    ) in
+    (step.advanced (hart_of (before c) c.args.rec.now.thread) c.args.rec.now.kept.finish) =
+    rw (c.write_back.ensures.harts, c.reserve.ensures.items, c.thread-t.ensures, c.finish.ensures) refl in
     let is_asked : c.asked.result
     ≡ step.asked c.args.rec.now.thread c.args.rec.now.kept.end c.args.rec.now.kept.finish =
-    grind (arith, common_steps, c.asked.ensures, c.thread-t.ensures, c.end.ensures, c.finish-2.ensures) in
-    let map_is : c.map.result.now ≡ (arc_value c.self.inside.frame).map =
-    grind (arith, c.map.ensures, c.deref.ensures) in
-    let view_is : c.view_at-view.result.now ≡ (hart_of (before c) c.args.rec.now.thread).view =
-    grind (arith, c.view_at-view.ensures, c.as_slice.ensures.value, c.thread-t.ensures) in
+    rw (c.asked.ensures, c.thread-t.ensures, c.end.ensures, c.finish-2.ensures) refl in
     let is_put : c.in_ok-memory.field-0.put.items ≡ put_of (arc_value c.self.inside.frame).map
     (hart_of (before c) c.args.rec.now.thread).view c.args.rec.now.kept =
     c.in_ok-memory.ensures.put
-    ∙ ap (λ pages. put_of pages c.view_at-view.result.now c.args.rec.now.kept) map_is
-    ∙ ap (λ view. put_of (arc_value c.self.inside.frame).map view c.args.rec.now.kept) view_is in
+    ∙ rw (c.map.ensures, c.deref.ensures, c.view_at-view.ensures, c.as_slice.ensures.value, c.thread-t.ensures)
+    refl in
     let is_output : c.extend_from_slice.new.self.items ≡ c.self.inside.output.items
     ++ c.in_ok-memory.field-0.put.items =
-    grind (
-      arith,
-      common_steps,
-      c.in_ok-extend_from_slice.ensures.items,
-      c.as_slice-2.ensures.value,
-      c.in_ok-memory.put-is,
-    ) in
-    let is_steps : c.self.inside.steps + 1 ≡ suc c.self.inside.steps = omega arith in
+    c.in_ok-extend_from_slice.ensures.items
+    ∙ ap (λ (put : List ℕ). c.self.inside.output.items ++ put) c.as_slice-2.ensures.value in
+    let is_steps : c.self.inside.steps + 1 ≡ suc c.self.inside.steps = add-one _ in
     let is_done : c.do_as_prepared-self-inside.new.harts.items ≡ harts_after
     (arc_value c.self.inside.frame).map c.self.inside.objects
     (arc_value c.in_ok-memory.field-0.memory) c.args.rec.now.thread c.write_back.new.harts.items c.asked.result =
-    grind (
-      arith,
-      common_steps,
-      c.do_as_prepared-self-inside.ensures.harts,
-      c.deref-2.ensures,
-      c.map-2.ensures,
-      c.in_ok-memory.memory-is,
-      c.thread-t.ensures,
-    ) in
+    c.do_as_prepared-self-inside.ensures.harts ∙ rw (c.map-2.ensures, c.deref-2.ensures, c.thread-t.ensures) refl in
     let is_objects : c.do_as_prepared-self-inside.new.objects ≡ objects_after
     (arc_value c.self.inside.frame).map c.self.inside.objects c.args.rec.now.thread c.asked.result =
-    grind (
-      arith,
-      common_steps,
-      c.do_as_prepared-self-inside.ensures.objects,
-      c.deref-2.ensures,
-      c.map-2.ensures,
-      c.thread-t.ensures,
-    ) in
+    c.do_as_prepared-self-inside.ensures.objects ∙ rw (c.map-2.ensures, c.deref-2.ensures, c.thread-t.ensures) refl in
     let is_ending : c.do_as_prepared-self-inside.result ≡ step.end_after
     (own_end (arc_value c.self.inside.frame).map c.self.inside.objects c.args.rec.now.thread c.asked.result)
     c.do_as_prepared-self-inside.new.harts.items c.self.inside.limit (c.self.inside.steps + 1) =
-    grind (
-      arith,
-      common_steps,
-      c.do_as_prepared-self-inside.ensures.ending,
-      c.deref-2.ensures,
-      c.map-2.ensures,
-      c.in_ok-memory.memory-is,
-      c.thread-t.ensures,
-    ) in
+    c.do_as_prepared-self-inside.ensures.ending ∙ rw (c.map-2.ensures, c.deref-2.ensures, c.thread-t.ensures) refl in
     applied-parts (before c) c.args.rec.now
     (arc_value c.in_ok-memory.field-0.memory) c.write_back.new.harts.items c.do_as_prepared-self-inside.new.harts.items
     c.do_as_prepared-self-inside.new.objects c.in_ok-memory.field-0.put.items c.extend_from_slice.new.self.items
-    (c.self.inside.steps + 1)
-    c.do_as_prepared-self-inside.result c.asked.result
-    is_memory is_written is_asked is_put is_output is_steps is_done is_objects is_ending
+    (c.self.inside.steps + 1) c.do_as_prepared-self-inside.result c.asked.result
+    c.in_ok-memory.ensures.memory is_written is_asked is_put is_output is_steps is_done is_objects is_ending
 
 pub do_as_prepared-self-inside-requires-clause-tied :
     goal.do_as_prepared-self-inside-requires-clause-tied
@@ -155,10 +127,58 @@ returns-clause-ok c = applied c ∙ ap (λ (x : Machine). step.apply x c.args.re
 pub do_as_prepared-self-inside-requires-clause-ready :
     goal.do_as_prepared-self-inside-requires-clause-ready
 do_as_prepared-self-inside-requires-clause-ready c =
-    let ready : is_ready (hart_in c.self.inside.harts.items c.thread-t.result).status ≡ true =
-    ap (λ (t : ℕ). is_ready (hart_in c.self.inside.harts.items t).status) c.thread-t.ensures
-    ∙ (and_parts _ _ (subst (λ (m : Machine). step.can_step m c.args.rec.now.thread ≡ true) (sym c.self.view_is)
-    c.requires)).1 in
+    let ready = ready_now _ _ _ _ c.self.view_is c.thread-t.ensures c.requires in
     rw (c.write_back.ensures.harts, c.in_ok-reserve.ensures.items)
     (ap (λ (h : Hart). is_ready h.status) (get_or-set_same c.self.inside.harts.items c.thread-t.result _ _
     (ready-below c.self.inside.harts.items c.thread-t.result ready)) ∙ ready)
+
+pub view_at-view-requires : goal.view_at-view-requires
+view_at-view-requires c =
+    rw c.as_slice.ensures.value
+    (ready-below _ _ (ready_now _ _ _ _ c.self.view_is c.thread-t.ensures c.requires))
+
+pub prepare-requires : goal.prepare-requires
+prepare-requires c =
+    rw (c.view_at-view.ensures, c.as_slice.ensures.value, c.map.ensures, c.deref.ensures)
+    (view_count _ _ c.self.invariant (ready_now _ _ _ _ c.self.view_is c.thread-t.ensures c.requires))
+
+pub returns-in_err-memory-clause-whole : goal.returns-in_err-memory-clause-whole
+returns-in_err-memory-clause-whole c = subst IsWhole c.self.view_is c.self.invariant
+
+pub invariant_of-self : goal.invariant_of-self
+invariant_of-self c = kept_whole _ _ _ c.self.invariant c.reserve.ensures.items refl
+
+pub returns-in_err-reserve-clause-whole : goal.returns-in_err-reserve-clause-whole
+returns-in_err-reserve-clause-whole c = subst IsWhole c.self.view_is c.self.invariant
+
+pub invariant_of-self-in_err-extend_from_slice : goal.invariant_of-self-in_err-extend_from_slice
+invariant_of-self-in_err-extend_from_slice c =
+    kept_whole _ _ _ c.self.invariant c.reserve.ensures.items c.in_err-extend_from_slice.ensures.items
+
+pub returns-in_err-extend_from_slice-clause-whole : goal.returns-in_err-extend_from_slice-clause-whole
+returns-in_err-extend_from_slice-clause-whole c = subst IsWhole c.self.view_is c.self.invariant
+
+pub write_back-requires : goal.write_back-requires
+write_back-requires c =
+    let ready = ready_now _ _ _ _ c.self.view_is c.thread-t.ensures c.requires in
+    record {
+      exists = rw c.reserve.ensures.items (ready-below _ _ ready);
+      few = rw c.reserve.ensures.items (number_fits _ _ c.self.invariant ready);
+    }
+
+pub overflow_add-self : goal.overflow_add-self
+overflow_add-self c = steps_fit _ c.self.invariant
+
+pub do_as_prepared-self-inside-requires-clause-room : goal.do_as_prepared-self-inside-requires-clause-room
+do_as_prepared-self-inside-requires-clause-room c =
+    rw (c.write_back.ensures.len, c.write_back.ensures.capacity) (room_for_one _ _ c.in_ok-reserve.ensures.ok)
+
+pub do_as_prepared-self-inside-requires-clause-enough : goal.do_as_prepared-self-inside-requires-clause-enough
+do_as_prepared-self-inside-requires-clause-enough c =
+    rw (c.asked.ensures, c.thread-t.ensures, c.end.ensures, c.finish-2.ensures) c.in_ok-memory.ensures.enough
+
+pub do_as_prepared-self-inside-requires-clause-views : goal.do_as_prepared-self-inside-requires-clause-views
+do_as_prepared-self-inside-requires-clause-views c = c.in_ok-memory.ensures.views
+
+pub returns-clause-whole : goal.returns-clause-whole
+returns-clause-whole c = subst IsWhole c.self.view_is c.self.invariant
