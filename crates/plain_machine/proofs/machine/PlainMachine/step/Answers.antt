@@ -1,13 +1,14 @@
 -- Answers to the goals that the check of `PlainMachine::step` leaves open.
-use Rattle.std.proofs.Common.{◌≡◌, ◌+◌, ◌<◌, ◌++◌, true, List, length, refl, ap, sym, subst, ◌∙◌, arith}
+use Rattle.std.proofs.Common.{◌≡◌, ◌+◌, ◌-◌, ◌^◌, ◌<◌, ◌++◌, ℕ, true, List, length, Fits, w32, refl, ap, sym, subst, ◌∙◌, arith}
 use Rattle.std.proofs.lemmas.Bool.{and_parts}
+use Rattle.std.proofs.lemmas.List.{get_or-set_same}
 use Rattle.std.proofs.lemmas.Grind.{common_steps}
 use Rattle.std.specs.Arc.{arc_value}
 use Rattle.isa_spec.specs.Registers.{Registers}
 use Rattle.memory_spec.specs.Pages.{Mapped, Memory, IsMemory}
 use Rattle.memory_spec.specs.Stores.{with_stores}
 use Rattle.machine_spec.specs.declared.states.Asked.{Asked}
-use Rattle.machine_spec.specs.Machine.{Machine, Hart, hart_in}
+use Rattle.machine_spec.specs.Machine.{Machine, Hart, hart_in, is_ready}
 use Rattle.machine_spec.specs.Step as step
 use Rattle.machine_spec.specs.Whole.{IsWhole}
 use Rattle.machine_spec.proofs.Harts.{ready-below}
@@ -15,10 +16,54 @@ use Rattle.machine_spec.proofs.Steps.{hart-at}
 use Rattle.machine_spec.proofs.Tied.{tied-written}
 use Rattle.plain_machine.specs.Stored.{bytes_of}
 use Rattle.plain_machine.specs.Turning.{IsDone}
+use Rattle.machine_calls.proofs.Asking.{few_numbers}
 use Rattle.machine_calls.specs.Doing.{harts_after, objects_after, own_end, effect_made}
 use Rattle.plain_machine.specs.Making.{IsMade, asked_by}
 use Rattle.plain_machine.proofs.Stepping.{stepped, reported}
 use Rattle.plain_machine.proofs.machine.PlainMachine.step.Goals as goal
+
+-- the thread of a step is ready
+ready_now :
+    (m now : Machine) (t : ℕ) → m ≡ now → step.can_step now t ≡ true → is_ready (hart_in m.harts t).status ≡ true
+ready_now m now t same can =
+    let may : step.can_step m t ≡ true = rw same can in
+    (and_parts _ _ may).1
+
+-- another step of it can be counted, and another one of all
+number_fits :
+    (m : Machine) (t : ℕ) → IsWhole m → is_ready (hart_in m.harts t).status ≡ true
+    → (hart_in m.harts t).number < 2 ^ 32 - 1
+number_fits m t whole ready = omega (arith, few_numbers m t whole ready)
+
+steps_fit : (m : Machine) → IsWhole m → Fits w32 (m.steps + 1)
+steps_fit m whole = omega (arith, whole.few_steps, whole.limits.most_steps)
+
+pub hart_at-hart-requires : goal.hart_at-hart-requires
+hart_at-hart-requires c = ready-below _ _ (ready_now _ _ _ c.self.view_is c.requires)
+
+pub apply_stores-requires : goal.apply_stores-requires
+apply_stores-requires c = c.self.invariant.memory.count ∙ sym (ap length c.deref.ensures)
+
+pub write_back-requires : goal.write_back-requires
+write_back-requires c =
+    let ready = ready_now _ _ _ c.self.view_is c.requires in
+    record {
+      exists = ready-below _ _ ready;
+      few = number_fits _ _ c.self.invariant ready;
+    }
+
+pub overflow_add-written : goal.overflow_add-written
+overflow_add-written c = steps_fit _ c.self.invariant
+
+pub overflow_add-machine : goal.overflow_add-machine
+overflow_add-machine c = steps_fit _ c.self.invariant
+
+pub finish-requires-clause-ready : goal.finish-requires-clause-ready
+finish-requires-clause-ready c =
+    let ready = ready_now _ _ _ c.self.view_is c.requires in
+    rw c.write_back.ensures.harts
+    (ap (λ (h : Hart). is_ready h.status) (get_or-set_same c.self.inside.harts.items c.args.t _ _ (ready-below _ _ ready))
+    ∙ ready)
 
 pub run-requires : goal.run-requires
 run-requires c =
