@@ -2,17 +2,13 @@
 use Rattle.std.proofs.Common.{◌≡◌, List, [], ◌∷◌, ◌++◌, All, false, map, sym, ap, ◌∙◌, subst}
 use Rattle.std.proofs.lemmas.List.{map-append}
 use Rattle.std.proofs.lemmas.List.Elements.{All-head, All-tail, All-push}
-use Rattle.clap.specs.Words.{AddsInTurn, AddsSubcommand, App, app_of, with_subcommand}
+use Rattle.clap.specs.Words.{AddsInTurn, AddsSubcommand, App, app_of}
 use Rattle.clap.specs.declared.builder.command.Command.{Command}
 use Rattle.clap.specs.declared.builder.command.Command.TheViews.{out-Command}
+use Rattle.ith_words.specs.Words.{with_commands}
 
 abbrev pub IsLocal : Command → Type 0
 IsLocal c = (out-Command c).has_globals ≡ false
-
--- a program with these commands below it
-abbrev pub with_commands : App → List App → App
-with_commands program [] = program
-with_commands program (app ∷ apps) = with_commands (with_subcommand program app.top) apps
 
 pub below_in_turn :
     (old new : Command) (commands : List Command)

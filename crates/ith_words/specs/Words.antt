@@ -189,22 +189,20 @@ generate_command = command (codes "gen") (number_operand_rule (codes "NUMBER") M
 abbrev pub program : App
 program = on_top (λ s. record s { subcommand_required = true }) (new_app (codes "ithreads"))
 
--- The program and the commands that run a guest that the command line names: `run`, `rerun` and `replay`.
-unfoldable pub guest_commands : App
-guest_commands =
-    with_subcommand (with_subcommand (with_subcommand program run_command.top) rerun_command.top) replay_command.top
+-- The program's commands, in the order in which its help lists them.
+abbrev pub commands : List App
+commands =
+    run_command ∷ rerun_command ∷ replay_command ∷ show_command ∷ explain_command ∷ audit_command ∷ races_command
+    ∷ generate_command ∷ []
 
--- The same, and the commands `show` and `why`.
-unfoldable pub memo_commands : App
-memo_commands = with_subcommand (with_subcommand guest_commands show_command.top) explain_command.top
-
--- The same, and the commands `audit` and `races`.
-unfoldable pub judging_commands : App
-judging_commands = with_subcommand (with_subcommand memo_commands audit_command.top) races_command.top
+-- A program with these commands below it, in their order.
+abbrev pub with_commands : App → List App → App
+with_commands app [] = app
+with_commands app (below ∷ others) = with_commands (with_subcommand app below.top) others
 
 -- The program's command line: the program and its commands.
 unfoldable pub command_line : App
-command_line = with_subcommand judging_commands generate_command.top
+command_line = with_commands program commands
 
 -- Whether an option that has no argument is given: the parser then has the text `true` for it.
 abbrev pub flag_given : Option Text → Bool

@@ -214,10 +214,7 @@ fn program<'a>(alloc: Global) -> Command<'a>
 /// The commands, in the order in which the help lists them.
 #[inline(never)]
 fn commands<'a>(alloc: Global) -> Result<Vec<Command<'a>>, AllocError>
-    ensures shapes { IfOk result (λ commands. map app_of commands.items
-        ≡ line.run_command ∷ line.rerun_command ∷ line.replay_command ∷ line.show_command
-        ∷ line.explain_command ∷ line.audit_command ∷ line.races_command ∷ line.generate_command
-        ∷ []) }
+    ensures shapes { IfOk result (λ commands. map app_of commands.items ≡ line.commands) }
     ensures local { IfOk result
         (λ commands. All (λ c. (out-Command c).has_globals ≡ false) commands.items) }
 {

@@ -2,12 +2,12 @@ use Rattle.std.proofs.Common.{◌≡◌, map, ap, ◌∙◌}
 use Rattle.std.proofs.lemmas.Result.{IfOk-weaker}
 use Rattle.clap.specs.Words.{AddsInTurn, AddsSubcommand, app_of}
 use Rattle.clap.specs.declared.builder.command.Command.{Command}
-use Rattle.ith_words.specs.Words.{command_line, guest_commands, judging_commands, memo_commands, program}
-use Rattle.ith_words.proofs.Commands.{below_in_turn, with_commands}
+use Rattle.ith_words.specs.Words.{command_line, program, with_commands}
+use Rattle.ith_words.proofs.Commands.{below_in_turn}
 use Rattle.ith_words.proofs.command.command_line.Goals as goal
 
 pub returns : goal.returns
-unfolding command_line judging_commands memo_commands guest_commands
+unfolding command_line
 returns c =
     let commands = c.in_ok-commands.commands.items in
     IfOk-weaker _ (AddsInTurn AddsSubcommand c.program.result commands) (λ (whole : Command). app_of whole ≡ command_line)
