@@ -1,5 +1,5 @@
 -- What a buffer shows of an input, byte by byte.
-use Rattle.std.proofs.Common.{◌≡◌, ◌≤◌, ◌<◌, ℕ, ◌+◌, ◌-◌, min, List, ◌++◌, length, take, drop, replicate, get_or, sym, ◌∙◌, arith, inl, inr, ◌⊎◌}
+use Rattle.std.proofs.Common.{◌≡◌, ◌≤◌, ◌<◌, ℕ, ◌-◌, min, List, ◌++◌, length, take, drop, replicate, get_or, sym, ◌∙◌, arith, inl, inr, ◌⊎◌}
 use Rattle.std.proofs.lemmas.Grind.{common_steps}
 use Rattle.std.proofs.lemmas.List.{ext_get_or, take_all, take-append-le}
 use Rattle.edit_list.specs.Showing.{Shows}

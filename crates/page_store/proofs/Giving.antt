@@ -1,5 +1,5 @@
 -- A page that becomes another one if some of its bytes are written, word by word of a mask.
-use Rattle.std.proofs.Common.{◌≡◌, ℕ, ◌+◌, ◌-◌, ◌%◌, ◌^◌, ◌<◌, ◌≤◌, ◌==◌, Bool, true, false, not, cond, List, length, map, get_or, take, drop, Decides, inl, inr, refl, ap, sym, ◌∙◌, arith, nat_eq, bit_and, w8, w64}
+use Rattle.std.proofs.Common.{◌≡◌, ℕ, ◌+◌, ◌-◌, ◌%◌, ◌^◌, ◌<◌, ◌≤◌, ◌==◌, Bool, true, false, not, cond, List, length, map, get_or, Decides, inl, inr, refl, ap, sym, ◌∙◌, arith, nat_eq, bit_and, w8, w64}
 use Rattle.std.proofs.lemmas.Bool.{cases_lt, eqb-true, eqb-false, eq-eqb}
 use Rattle.std.specs.Int.{bit_at, bit_not}
 use Rattle.std.specs.Str.{bytes_eq}

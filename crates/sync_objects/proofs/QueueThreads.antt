@@ -1,5 +1,5 @@
 -- A queue of threads stays one if a thread is added or the first leaves.
-use Rattle.std.proofs.Common.{◌≡◌, ℕ, ◌<◌, ◌≤◌, List, [], ◌∷◌, ◌++◌, Option, arith, subst, sym, ap}
+use Rattle.std.proofs.Common.{◌≡◌, ℕ, ◌<◌, List, [], ◌∷◌, ◌++◌, Option, arith, subst, sym, ap}
 use Rattle.std.proofs.lemmas.Bool.Decides.{nat_tests}
 use Rattle.guest_call.proofs.Counting.{places-nil, places-cons, places-push}
 use Rattle.sync_objects.specs.Queue.{popped, AreThreads}

@@ -1,12 +1,12 @@
 -- What a table keeps after a row that loses no thread and puts none in two places; and that its queues have room.
-use Rattle.std.proofs.Common.{◌≡◌, ℕ, ◌+◌, ◌<◌, ◌≤◌, Bool, true, false, List, [], length, replicate, slice_index_or, arith, refl, subst, sym, ap, ◌∙◌}
+use Rattle.std.proofs.Common.{◌≡◌, ℕ, ◌<◌, Bool, true, List, [], length, replicate, slice_index_or, arith, subst, sym, ap, ◌∙◌}
 use Rattle.std.proofs.lemmas.List.{length-replicate}
 use Rattle.guest_call.specs.declared.Fate.{Fate}
 use Rattle.guest_call.specs.declared.Fate.TheVariants.{Returns, Blocks, Ends, Exits}
 use Rattle.guest_call.specs.Effect.{Effect, waiting}
-use Rattle.guest_call.specs.Queues.{places, waits, entering}
+use Rattle.guest_call.specs.Queues.{waits, entering}
 use Rattle.guest_call.specs.Tables.{at_cell, checked, IsTable, IsFair}
-use Rattle.guest_call.proofs.Counting.{places-le-waits, waits-replicate, entering-returns, entering-blocks, entering-ends, entering-exits}
+use Rattle.guest_call.proofs.Counting.{places-le-waits, waits-replicate, entering-returns, entering-ends, entering-exits}
 use Rattle.guest_call.proofs.Conservation.{at_cell_keeps}
 use Rattle.guest_call.proofs.Kept.{once_kept, known_kept}
 use Rattle.guest_call.proofs.Shape.{length-at_cell}

@@ -1,11 +1,11 @@
 -- What the table of mutexes keeps when threads come from a condition.
-use Rattle.std.proofs.Common.{◌≡◌, ℕ, ◌+◌, ◌<◌, ◌≤◌, List, ◌++◌, length, slice_index_or, slice_set, arith, refl, subst, sym, ap, ◌∙◌, length-append}
+use Rattle.std.proofs.Common.{◌≡◌, ℕ, ◌+◌, ◌<◌, ◌≤◌, List, ◌++◌, length, slice_index_or, slice_set, arith, subst, sym, ap, ◌∙◌, length-append}
 use Rattle.std.proofs.lemmas.List.{length-set, get_or_default}
 use Rattle.guest_call.specs.Queues.{places, waits}
 use Rattle.guest_call.specs.Tables.{IsTable}
 use Rattle.guest_call.specs.Mutexes.{Mutex, unlocked, mutex_queue}
 use Rattle.guest_call.specs.Conditions.{admit_each}
-use Rattle.guest_call.proofs.Counting.{places-append, waits-set, places-le-waits, waits-replicate}
+use Rattle.guest_call.proofs.Counting.{places-append, waits-set, places-le-waits}
 use Rattle.guest_call.proofs.Rows.{admit_each_places}
 use Rattle.sync_objects.proofs.Room.{length-few}
 use Rattle.sync_objects.specs.Admitting.{admit_each_at}

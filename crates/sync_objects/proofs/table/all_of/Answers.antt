@@ -1,5 +1,5 @@
 -- Each object is what the closure makes.
-use Rattle.std.proofs.Common.{◌≡◌, ◌<◌, replicate, slice_index_or, arith, rules, sym, ◌∙◌}
+use Rattle.std.proofs.Common.{◌≡◌, ◌<◌, replicate, slice_index_or, arith, sym, ◌∙◌}
 use Rattle.std.proofs.lemmas.List.{same_lists, length-replicate, get_or-replicate}
 use Rattle.sync_objects.proofs.table.all_of.Goals as goal
 

@@ -1,5 +1,5 @@
 -- Each object is as it is at the start.
-use Rattle.std.proofs.Common.{rules, replicate, ◌≡◌, refl, subst, sym}
+use Rattle.std.proofs.Common.{rules, refl, subst, sym}
 use Rattle.guest_call.specs.Tables.{IsTable}
 use Rattle.guest_call.specs.Mutexes.{unlocked, mutex_queue}
 use Rattle.guest_call.specs.Objects.{all_unlocked}
