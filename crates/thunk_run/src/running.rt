@@ -41,8 +41,7 @@ impl Job {
 ///
 /// # Errors
 ///
-/// An error if the host's memory ran out, or the view, one of its pages or the page map has as many holders as can be
-/// counted.
+/// An error if the host's memory ran out, or a shared part has as many holders as can be counted.
 fn run_thunk<W: Watch>(
     alloc: Global,
     job: &Job,
@@ -75,8 +74,8 @@ fn run_thunk<W: Watch>(
 ///
 /// # Errors
 ///
-/// An error if the host's memory ran out, or the view, one of its pages, the page map or the frame has as many holders
-/// as can be counted; the counter may have risen, and is never lower.
+/// An error if the host's memory ran out, or a shared part has as many holders as can be counted; the counter may have
+/// risen, and is never lower.
 pub fn execute(alloc: Global, job: &Job, turns: &mut Turns) -> Result<Run, AllocError>
     ensures run { IfOk result (λ run. IsRunOf job.now run) }
     ensures within { IfOk result
@@ -91,8 +90,8 @@ pub fn execute(alloc: Global, job: &Job, turns: &mut Turns) -> Result<Run, Alloc
 ///
 /// # Errors
 ///
-/// An error if the host's memory ran out, or the view, one of its pages, the page map or the frame has as many holders
-/// as can be counted; the counter may have risen, and is never lower.
+/// An error if the host's memory ran out, or a shared part has as many holders as can be counted; the counter may have
+/// risen, and is never lower.
 #[tactic(auto, using(crate::proofs::Counting::kept_within))]
 pub fn execute_watched<W: Watch>(
     alloc: Global,
