@@ -1,5 +1,5 @@
 -- What the call of a ready thread may assume.
-use Rattle.std.proofs.Common.{◌≡◌, ◌<◌, ◌≤◌, ◌+◌, ℕ, Bool, true, List, length, ◌∙◌, arith}
+use Rattle.std.proofs.Common.{◌≡◌, ◌<◌, ◌≤◌, ◌+◌, ◌-◌, ◌^◌, ℕ, Bool, true, List, length, Fits, w32, ◌∙◌, arith}
 use Rattle.guest_call.specs.declared.Call.{Call}
 use Rattle.guest_call.specs.declared.thread_number.TheConstants.{THREADS}
 use Rattle.guest_call.specs.Objects.{Objects, act, waits_at, created_count}
@@ -46,3 +46,12 @@ pub few_numbers : (m : Machine) (t : ℕ) → IsWhole m → is_ready (hart_in m.
 few_numbers m t whole ready =
     let number = (hart-at m.frame.map m.steps m.harts t (ready-below m.harts t ready) whole.harts).number in
     omega (arith, whole.few_steps, whole.limits.most_steps)
+
+-- another step of it can be counted, and another one of all
+pub number_fits :
+    (m : Machine) (t : ℕ) → IsWhole m → is_ready (hart_in m.harts t).status ≡ true
+    → (hart_in m.harts t).number < 2 ^ 32 - 1
+number_fits m t whole ready = omega (arith, few_numbers m t whole ready)
+
+pub steps_fit : (m : Machine) → IsWhole m → Fits w32 (m.steps + 1)
+steps_fit m whole = omega (arith, whole.few_steps, whole.limits.most_steps)

@@ -16,7 +16,7 @@ use Rattle.machine_spec.proofs.Steps.{hart-at}
 use Rattle.machine_spec.proofs.Tied.{tied-written}
 use Rattle.plain_machine.specs.Stored.{bytes_of}
 use Rattle.plain_machine.specs.Turning.{IsDone}
-use Rattle.machine_calls.proofs.Asking.{few_numbers}
+use Rattle.machine_calls.proofs.Asking.{number_fits, steps_fit}
 use Rattle.machine_calls.specs.Doing.{harts_after, objects_after, own_end, effect_made}
 use Rattle.plain_machine.specs.Making.{IsMade, asked_by}
 use Rattle.plain_machine.proofs.Stepping.{stepped, reported}
@@ -28,15 +28,6 @@ ready_now :
 ready_now m now t same can =
     let may : step.can_step m t ≡ true = rw same can in
     (and_parts _ _ may).1
-
--- another step of it can be counted, and another one of all
-number_fits :
-    (m : Machine) (t : ℕ) → IsWhole m → is_ready (hart_in m.harts t).status ≡ true
-    → (hart_in m.harts t).number < 2 ^ 32 - 1
-number_fits m t whole ready = omega (arith, few_numbers m t whole ready)
-
-steps_fit : (m : Machine) → IsWhole m → Fits w32 (m.steps + 1)
-steps_fit m whole = omega (arith, whole.few_steps, whole.limits.most_steps)
 
 pub hart_at-hart-requires : goal.hart_at-hart-requires
 hart_at-hart-requires c = ready-below _ _ (ready_now _ _ _ c.self.view_is c.requires)

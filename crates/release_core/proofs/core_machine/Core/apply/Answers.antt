@@ -9,7 +9,7 @@ use Rattle.std.proofs.lemmas.List.{get_or-set_same}
 use Rattle.machine_spec.specs.Step as step
 use Rattle.machine_spec.specs.Whole.{IsWhole}
 use Rattle.machine_spec.proofs.Tied.{tied-written}
-use Rattle.machine_calls.proofs.Asking.{view_count, few_numbers}
+use Rattle.machine_calls.proofs.Asking.{view_count, number_fits, steps_fit}
 use Rattle.machine_calls.specs.Doing.{harts_after, objects_after, own_end}
 use Rattle.history_spec.proofs.Applying.{apply-whole}
 use Rattle.release_core.proofs.Applying.{applied-parts}
@@ -22,14 +22,6 @@ ready_now :
 ready_now m now t thread same is can =
     let ready : step.can_step m t ≡ true = rw (same, is) can in
     (and_parts _ _ ready).1
-
--- it has room for a step more, and the machine for one in all
-number_fits : (m : Machine) (t : ℕ) → IsWhole m → is_ready (hart_in m.harts t).status ≡ true
-    → (hart_in m.harts t).number < 2 ^ 32 - 1
-number_fits m t whole ready = omega (arith, few_numbers m t whole ready)
-
-steps_fit : (m : Machine) → IsWhole m → Fits w32 (m.steps + 1)
-steps_fit m whole = omega (arith, whole.few_steps, whole.limits.most_steps)
 
 room_for_one : (n room : ℕ) → n + 1 ≤ room → n < room
 room_for_one n room fits = omega arith
