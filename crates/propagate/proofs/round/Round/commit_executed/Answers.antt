@@ -1,5 +1,5 @@
 -- Answers to the goals that the check of `Round::commit_executed` leaves open.
-use Rattle.std.proofs.Common.{◌≡◌, ◌<◌, ◌≤◌, ◌+◌, ℕ, suc, Bool, true, false, not, cond, set, length, List, [], ◌∷◌, ◌++◌, Option, Box, Vec, is_some, option_map, refl, add-one, ap, sym, subst, ◌∙◌, arith}
+use Rattle.std.proofs.Common.{◌≡◌, ◌<◌, ◌≤◌, ◌+◌, ℕ, suc, Bool, true, false, not, set, length, List, Option, Box, Vec, is_some, option_map, refl, add-one, ap, sym, subst, ◌∙◌, arith}
 use Rattle.std.specs.Arc.{arc_value}
 use Rattle.std.specs.Global.{Global}
 use Rattle.thunk_spec.specs.Thunk.{Frame}

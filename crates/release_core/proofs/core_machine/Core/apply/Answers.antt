@@ -1,5 +1,5 @@
 -- Answers to the goals that the check of `Core::apply` leaves open.
-use Rattle.std.proofs.Common.{◌≡◌, ◌<◌, ◌≤◌, ◌-◌, ◌^◌, ℕ, true, ◌+◌, suc, List, ◌++◌, slice_set, Fits, w32, refl, add-one, ap, sym, subst, ◌∙◌, arith}
+use Rattle.std.proofs.Common.{◌≡◌, ◌<◌, ◌≤◌, ◌-◌, ℕ, true, ◌+◌, suc, List, ◌++◌, slice_set, refl, add-one, ap, sym, subst, ◌∙◌, arith}
 use Rattle.std.specs.Arc.{arc_value}
 use Rattle.thunk_spec.specs.Record.{put_of}
 use Rattle.machine_spec.specs.Machine.{Machine, Hart, hart_in, hart_of, is_ready}
