@@ -1,5 +1,5 @@
 -- Answers to the goals that the check of `Locked::commit_taken` leaves open.
-use Rattle.std.proofs.Common.{◌+◌, ap, sym, subst, ◌∙◌, Option}
+use Rattle.std.proofs.Common.{◌+◌, ap, sym, subst, ◌∙◌, Option, arith}
 use Rattle.std.specs.Arc.{arc_value}
 use Rattle.machine_spec.specs.Setup.{Setup, first}
 use Rattle.rerun_workers.proofs.Under.{counted_on, counted_more, watched_on, watched_more}
@@ -24,6 +24,22 @@ commit_run-requires g c =
       ticket =
           subst (λ (ticket : Option TicketView). IsRunOfTicket ticket c.args.run) (sym c.take.ensures.value)
           c.requires.ticket;
+    }
+
+pub invariant_of-pass : goal.invariant_of-pass
+invariant_of-pass g c =
+    let pass = c.args.pass.now in
+    let counted = pass.counted in
+    record {
+      one = c.add.ensures.parts ∙ c.audit.ensures.parts ∙ pass.one;
+      counted = omega (arith, counted, c.add.ensures.amount, c.audit.ensures.amount);
+      own = pass.own;
+      named = pass.named;
+      ticketed = subst (IsNamed g.J.Naming.tickets) (sym c.take.ensures.after) tt;
+      edited = pass.edited;
+      once = pass.once;
+      idle = pass.idle;
+      spares = pass.spares;
     }
 
 pub invariant_of-self : goal.invariant_of-self
