@@ -74,7 +74,7 @@ fn passes_of<J: Naming, R: Threads>(
 }
 
 /// A pass for each of `workers` workers, none of which has made a step, and room to list the steps of each.
-fn places_of<J: Naming, R: Threads>(
+fn passes_with_room<J: Naming, R: Threads>(
     rt: &R,
     alloc: Global,
     all: Share<J>,
@@ -235,7 +235,7 @@ impl<J: Naming> Board<J> {
         ensures count { IfOk result (λ made. vec_len made.1 ≡ workers) }
         ensures nothing { IfOk result (λ made. All (λ pass. pass.steps ≡ 0) made.1.items) }
     {
-        let (passes, worker_steps) = places_of(rt, alloc, all, workers)?;
+        let (passes, worker_steps) = passes_with_room(rt, alloc, all, workers)?;
         let board = Board {
             lock: Mutex::new(locked),
             changed: Condvar::new(),
