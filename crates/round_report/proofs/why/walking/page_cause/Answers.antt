@@ -5,7 +5,6 @@ use Rattle.std.proofs.lemmas.List.{get_or_read}
 use Rattle.memory_spec.specs.Pages.{Memory, page_of}
 use Rattle.thunk_spec.specs.Reads.{ReadPage}
 use Rattle.memo_reports.specs.Listing.{addresses_of}
-use Rattle.round_report.specs.declared.why.reason.Cause.{Cause}
 use Rattle.round_report.specs.declared.why.reason.Cause.TheVariants.{Byte}
 use Rattle.round_report.specs.Differences.{first_difference, page_cause, byte_cause}
 use Rattle.round_report.specs.Storing.{last_store}

@@ -1,7 +1,6 @@
 -- Answers to the goals that the check of `reasons_from` leaves open.
 use Rattle.std.proofs.Common.{◌≡◌, length, map, ap, ◌∙◌, arith}
 use Rattle.std.proofs.lemmas.List.{get_or-replicate}
-use Rattle.machine_spec.specs.Setup.{first}
 use Rattle.round_report.specs.declared.why.reason.Reason.{Reason}
 use Rattle.round_report.proofs.Steps.{first-before}
 use Rattle.round_report.proofs.ReasonsSoFar.{reported_so_far, executed_so_far, reported-next, each-next, all-reported, reported-scratch}
