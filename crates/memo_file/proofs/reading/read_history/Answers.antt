@@ -1,5 +1,5 @@
 -- Answers to the goals that the check of `read_history` leaves open.
-use Rattle.std.proofs.Common.{◌≡◌, rules}
+use Rattle.std.proofs.Common.{◌≡◌, arith, rules}
 use Rattle.std.proofs.lemmas.Result.{err_from_is_err_and}
 use Rattle.memo_spec.specs.Reading.{history_at}
 use Rattle.memo_file.proofs.Loops.{part_fails, kept_fails}
@@ -18,6 +18,10 @@ pool_and_records-requires-clause-small c =
     let m = map_is c.in_ok-setup.setup c.in_ok-core.core c.map.result.now c.in_ok-core.ensures.first e in
     rw m (small_pages c.in_ok-setup.setup c.in_ok-core.ensures.sound)
 
+pub pool_and_records-requires-clause-few : goal.pool_and_records-requires-clause-few
+pool_and_records-requires-clause-few c =
+    omega (arith, c.in_ok-entries.ensures.within, c.in_ok-core.ensures.sound.limits.most_steps)
+
 pub new-requires-2 : goal.new-requires-2
 new-requires-2 c =
     let e = history_taken c.args.cursor.now c.read_setup.new.cursor c.limited.new.cursor c.pool_and_records.new.cursor
@@ -25,6 +29,12 @@ new-requires-2 c =
     c.steps.ensures.value c.in_ok-entries.ensures.given c.in_ok-records.ensures in
     read_is_mapped c.args.cursor.now (history c.in_ok-setup.setup c.in_ok-records.records)
     c.pool_and_records.new.cursor c.requires.bytes e
+
+pub returns-clause-core : goal.returns-clause-core
+returns-clause-core c = rw c.new-2.ensures c.in_ok-core.ensures.first
+
+pub returns-clause-sound : goal.returns-clause-sound
+returns-clause-sound c = rw c.new-2.ensures c.in_ok-core.ensures.sound
 
 pub returns-clause-given : goal.returns-clause-given
 returns-clause-given c =
