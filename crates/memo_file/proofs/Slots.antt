@@ -1,11 +1,10 @@
--- A page's slot by its number and by its address, and pages that are read or refused by their slot.
-use Rattle.std.proofs.Common.{◌≡◌, ℕ, suc, ◌+◌, ◌*◌, ◌/◌, ◌^◌, ◌<◌, ◌≤◌, ◌⊎◌, Bool, true, false, not, cond, List, [], ◌∷◌, length, Result, Ok, Err, refl, sym, ap, ◌∙◌, arith, inl, inr}
+-- A page's slot by its number and by its address, and a page that is read or refused.
+use Rattle.std.proofs.Common.{◌≡◌, ℕ, suc, ◌+◌, ◌*◌, ◌/◌, ◌^◌, ◌<◌, ◌≤◌, ◌⊎◌, Bool, true, false, not, cond, List, [], ◌∷◌, length, Ok, Err, refl, ap, ◌∙◌, arith, inl, inr}
 use Rattle.std.specs.Prelude.{◌==◌, slice_index_or}
 use Rattle.std.specs.Int.{w32}
 use Rattle.std.proofs.lemmas.Bool.{ne_eqb, lt-ltb, le-ltb, le-leb, lt-leb, and_left, and_right}
 use Rattle.memory_spec.specs.Pages.{Mapped, slot_of, AreAddressable}
 use Rattle.ith_text.specs.Place.{Place}
-use Rattle.memo_spec.specs.declared.Refusal.{Refusal}
 use Rattle.memo_spec.specs.declared.Refusal.TheVariants.{Field}
 use Rattle.memo_spec.specs.Reader.{number_at}
 use Rattle.memo_spec.specs.Reading.{ReadState, slot_of_number, slot_at, read_page_at, used_after}
@@ -29,36 +28,6 @@ far (m ∷ pages) n small le =
     let ne : (m.number == n) ≡ false = ne_eqb _ _ (λ e. omega (arith, e, small 0 m (omega arith), le)) in
     let rest = far pages n (λ k d lt. small (suc k) d (omega arith)) le in
     rw ne (omega (arith, rest))
-
--- ---- a page number
-
-number_is :
-    (pages : List Mapped) (number slot : ℕ) → slot ≡ slot_of pages (number * 4096) → slot_of_number pages number ≡ slot
-number_is pages number slot is = sym (is ∙ slot_of_is pages number)
-
-pub slot_read :
-    (pages : List Mapped) (low number slot : ℕ) (p q : Place)
-    → number_at w32 p ≡ Ok (number, q) → slot ≡ slot_of pages (number * 4096) → low ≤ slot → slot < length pages
-    → slot_at pages low p ≡ Ok (slot, q)
-unfolding slot_at
-slot_read pages low number slot p q read is from below =
-    let at = number_is pages number slot is in
-    let there = slot_of_number pages number in
-    rw (read, le-leb low there (omega arith), lt-ltb there (length pages) (omega arith)) (ap (found q) at)
-  where
-    found : Place → ℕ → Result (ℕ × Place) Refusal
-    found q n = Ok (n, q)
-
-pub slot_refused :
-    (pages : List Mapped) (low number slot : ℕ) (p q : Place)
-    → number_at w32 p ≡ Ok (number, q) → slot ≡ slot_of pages (number * 4096)
-    → (slot < low) ⊎ (length pages ≤ slot)
-    → slot_at pages low p ≡ Err (Field p.taken)
-unfolding slot_at
-slot_refused pages low number slot p q read is (inl before) =
-    rw (read, number_is pages number slot is, and_left _ _ (lt-leb low slot before)) refl
-slot_refused pages low number slot p q read is (inr behind) =
-    rw (read, number_is pages number slot is, and_right _ _ (le-ltb slot (length pages) behind)) refl
 
 -- ---- a read page
 

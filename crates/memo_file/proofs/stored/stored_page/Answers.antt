@@ -24,16 +24,6 @@ returns-in_err-bytes-clause-given c =
     rw (p.1, p.2, c.in_ok-slot.ensures.given, c.in_ok-marks.ensures.given, ← c.count_marks.ensures)
     (part_fails c.in_err-bytes.field-0.0 _ _ c.in_err-bytes.ensures.given)
 
-pub returns-in_err-stored-clause-given : goal.returns-in_err-stored-clause-given
-returns-in_err-stored-clause-given c =
-    let p = err_from_is_err_and c.from_residual-in_err-stored.result c.from_residual-in_err-stored.ensures.1 in
-    rw (p.1, p.2) tt
-
-pub returns-in_err-new-clause-given : goal.returns-in_err-new-clause-given
-returns-in_err-new-clause-given c =
-    let p = err_from_is_err_and c.from_residual-in_err-new.result c.from_residual-in_err-new.ensures.1 in
-    rw (p.1, p.2) tt
-
 pub returns-clause-given : goal.returns-clause-given
 unfolding stored_page_at
 returns-clause-given c =
