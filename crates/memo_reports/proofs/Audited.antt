@@ -1,9 +1,8 @@
 -- How far some records were audited, from a machine on.
-use Rattle.std.proofs.Common.{◌≡◌, ℕ, zero, suc, ◌+◌, ◌*◌, ◌^◌, ◌<◌, ◌≤◌, Bool, false, cond, List, [], ◌∷◌, length, drop, Option, Some, None, is_none, refl, sym, ap, ◌∙◌, subst, arith}
+use Rattle.std.proofs.Common.{◌≡◌, ℕ, zero, suc, ◌+◌, ◌*◌, ◌^◌, ◌<◌, ◌≤◌, Bool, false, cond, List, [], ◌∷◌, length, drop, Option, Some, sym, ap, ◌∙◌, subst, arith}
 use Rattle.std.specs.Prelude.{slice_get}
 use Rattle.thunk_spec.specs.Record.{Record}
 use Rattle.machine_spec.specs.Machine.{Machine}
-use Rattle.machine_spec.specs.declared.states.End.{End}
 use Rattle.machine_spec.specs.Schedule.{record_of}
 use Rattle.machine_spec.specs.Step.{apply}
 use Rattle.release_core.specs.Applying.{can_apply}
@@ -79,7 +78,3 @@ audited-stuck m rs place core found then so lt stuck first sum =
           (subst (λ (l : List Record). IsFirstFalseFrom core l (Some 0)) (sym f.are) (unstored-unmade core f.r cannot)));
       turns = omega (arith, so.turns, none, sum);
     }
-
-ends : (m : Machine) (e : Option End) → m.ending ≡ e → IsFirstFalseFrom m [] (cond (is_none e) (Some 0) None)
-ends m None is = rw is refl
-ends m (Some e) is = rw is refl
