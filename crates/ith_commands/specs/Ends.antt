@@ -19,7 +19,7 @@ use Rattle.plain_machine.specs.Replaying.{IsFirstForbidden}
 use Rattle.report_spec.specs.Text.{line as text_line}
 use Rattle.round_report.specs.Replay.{replay_of}
 use Rattle.round_report.specs.Short.{short_of}
-use Rattle.rerun_spec.specs.Rounds.{Found, Round, IsMade, IsWatched, last_left}
+use Rattle.rerun_spec.specs.Rounds.{Found, Round, IsMade, IsWatched, last_history}
 use Rattle.rerun_spec.specs.Reports.{is_exit, all_exit, made_reports, all_made_exit}
 use Rattle.schedule_list.specs.Schedule.{Says}
 use Rattle.ith_words.specs.Words.{Text, Line, Runs, Reruns, Replays, Shows, Explains, FindsRaces, Audits, Generates, RunLine, RerunLine, ReplayLine, ShowLine, ExplainLine, RacesLine, AuditLine, GenerateLine}
@@ -56,8 +56,8 @@ abbrev pub texts_of : Plan → List Found → List (List ℕ)
 texts_of p found = made_reports (rounds_of p found)
 
 -- The history of the last round of a plan.
-abbrev pub left_of : Plan → List Found → History
-left_of p found = last_left p.beginning p.inputs found
+abbrev pub last_history_of : Plan → List Found → History
+last_history_of p found = last_history p.beginning p.inputs found
 
 -- The name of the memo that a command line requests to write, if it does.
 abbrev pub new_memo_of : Line → Option Text
@@ -90,9 +90,9 @@ pub record IsDone (line : Line) (exits : Bool) (before after : World) : Type 0 w
   pub has : HasRounds line before
   pub all : HasAll line before has
   pub keeps :
-      PrintsAndKeeps (new_memo_of line) (memo (left_of has.plan has.found)) before after
+      PrintsAndKeeps (new_memo_of line) (memo (last_history_of has.plan has.found)) before after
       (concat (texts_of has.plan has.found))
-  pub within : IsKeptWithin (new_memo_of line) (memo (left_of has.plan has.found))
+  pub within : IsKeptWithin (new_memo_of line) (memo (last_history_of has.plan has.found))
   pub ends : all_made_exit (rounds_of has.plan has.found) ≡ exits
 
 -- A fact holds of none of these files.
@@ -180,7 +180,7 @@ pub record IsTooLargeToKeep (line : Line) (before after : World) : Type 0 where
   pub all : HasAll line before has
   pub name : Text
   pub is_named : new_memo_of line ≡ Some name
-  pub long : MOST_MEMO_BYTES < length (memo (left_of has.plan has.found))
+  pub long : MOST_MEMO_BYTES < length (memo (last_history_of has.plan has.found))
   pub prints : Prints before after (concat (texts_of has.plan has.found))
 
 -- Printing failed: the first of some texts were printed, and the first bytes of the next, any number of them.
@@ -206,7 +206,7 @@ pub record IsUnkept (line : Line) (before after : World) : Type 0 where
   pub all : HasAll line before has
   pub name : Text
   pub is_named : new_memo_of line ≡ Some name
-  pub within : length (memo (left_of has.plan has.found)) ≤ MOST_MEMO_BYTES
+  pub within : length (memo (last_history_of has.plan has.found)) ≤ MOST_MEMO_BYTES
   pub cause : Rose (before.write_faults name) (after.write_faults name)
   pub is_stated : after.is_stated ≡ before.is_stated
   pub printed : Appends before.printed after.printed (concat (texts_of has.plan has.found))

@@ -28,7 +28,7 @@ use Rattle.ith_commands.specs.Contents.{Plan, IsPlan, ReplayContents, WasReplayR
 use Rattle.ith_commands.specs.Rounds.{rounds_of}
 use Rattle.ith_commands.specs.Counting.{Work, IsCounted, turns_for}
 use Rattle.ith_commands.specs.Explaining.{explained_round, why_of}
-use Rattle.ith_commands.specs.Ends.{Prints, PrintsAndKeeps, IsKeptWithin, texts_of, left_of, generated_text}
+use Rattle.ith_commands.specs.Ends.{Prints, PrintsAndKeeps, IsKeptWithin, texts_of, last_history_of, generated_text}
 
 -- A beginning in code, as one of the definitions.
 abbrev pub beginning_said : Begun → Beginning
@@ -72,7 +72,7 @@ pub record AreFound (workers : ℕ) (p : Plan) (found : List Found) : Type 0 whe
 
 -- This many workers made all rounds of a plan, and no other: the counts rose by these rounds and their turns; exactly
 -- the reports of these rounds were printed; whether each ended by exit, and the history of the last one.
-pub record IsPlayed (workers : ℕ) (p : Plan) (before after : World) (earlier later : Work) (exits : Bool) (left : History)
+pub record IsPlayed (workers : ℕ) (p : Plan) (before after : World) (earlier later : Work) (exits : Bool) (history : History)
     : Type 0
   where
     pub found : List Found
@@ -82,7 +82,7 @@ pub record IsPlayed (workers : ℕ) (p : Plan) (before after : World) (earlier l
     pub turns : later.turns ≡ earlier.turns + turns_for found
     pub prints : Prints before after (concat (texts_of p found))
     pub are_exits : all_made_exit (rounds_of p found) ≡ exits
-    pub is_left : left ≡ left_of p found
+    pub is_last : history ≡ last_history_of p found
 
 -- This many workers made all rounds of a plan, and no other: the counts rose by these rounds and their turns; exactly
 -- the reports of these rounds were printed, and the memo of the last one was written, if it has a name; and whether
@@ -95,8 +95,8 @@ pub record IsCarriedOut (name : Option Text) (workers : ℕ) (p : Plan) (before 
     pub all : length found ≡ length p.inputs
     pub rounds : later.rounds ≡ earlier.rounds + length found
     pub turns : later.turns ≡ earlier.turns + turns_for found
-    pub keeps : PrintsAndKeeps name (memo (left_of p found)) before after (concat (texts_of p found))
-    pub within : IsKeptWithin name (memo (left_of p found))
+    pub keeps : PrintsAndKeeps name (memo (last_history_of p found)) before after (concat (texts_of p found))
+    pub within : IsKeptWithin name (memo (last_history_of p found))
     pub are_exits : all_made_exit (rounds_of p found) ≡ exits
 
 -- The request of a `replay` command: all its files were read, the executable is accepted, this is the setup, and this

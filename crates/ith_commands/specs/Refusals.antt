@@ -16,7 +16,7 @@ use Rattle.ith_commands.specs.declared.status.Status.{Status}
 use Rattle.ith_commands.specs.declared.status.Status.TheVariants as status
 use Rattle.ith_commands.specs.Files.{Named}
 use Rattle.ith_commands.specs.Contents.{Plan}
-use Rattle.ith_commands.specs.Ends.{Prints, IsPrintedInPart, texts_of, left_of, ScheduleRefusal, RefusesSchedule, EndsBy}
+use Rattle.ith_commands.specs.Ends.{Prints, IsPrintedInPart, texts_of, last_history_of, ScheduleRefusal, RefusesSchedule, EndsBy}
 use Rattle.ith_commands.specs.Counting.{Work}
 use Rattle.ith_commands.specs.Playing.{AreFound}
 
@@ -121,7 +121,7 @@ pub record IsUnkeptAfter (name : Option Text) (workers : ℕ) (p : Plan) (before
     pub prints : Prints before between (concat (texts_of p found))
     pub kept : Text
     pub is_named : name ≡ Some kept
-    pub why : WhyUnkept kept (memo (left_of p found)) between after s
+    pub why : WhyUnkept kept (memo (last_history_of p found)) between after s
 
 -- Why the rounds of a plan weren't all made and printed, or the memo of this name, if there is one, wasn't written.
 abbrev pub WhyUndone : Option Text → ℕ → Plan → World → World → Work → Work → Status → Type 0

@@ -5,7 +5,7 @@ use Rattle.history_spec.specs.History.{History, IsHonest}
 use Rattle.memo_spec.specs.Encoding.{IsEncodable}
 use Rattle.round_spec.specs.Alone.{one_worker}
 use Rattle.round_spec.specs.Working.{ReexecutesLeast}
-use Rattle.rerun_spec.specs.Rounds.{Found, Round, Beginning, made, IsPickedRightly, left_by, schedule_in, entries_of, rounds_after, IsRepeated}
+use Rattle.rerun_spec.specs.Rounds.{Found, Round, Beginning, made, IsPickedByRule, resulting_history, schedule_in, entries_of, rounds_after, IsRepeated}
 use Rattle.rerun_spec.specs.Making.{OnlyRepeats, Repeats}
 use Rattle.rerun_spec.specs.Reports.{reports_of, made_reports, all_exit, all_made_exit}
 use Rattle.ith_commands.specs.Contents.{Plan}
@@ -21,11 +21,11 @@ pub record IsPromised (workers : ℕ) (r : Round) : Type 0 where
   pub complete : is_complete r.setup (schedule_in r) ≡ true
   pub marks : r.found.entries ≡ entries_of r
   pub alone : workers ≡ 1 → schedule_in r ≡ one_worker r.setup r.past
-  pub picked : IsPickedRightly r
+  pub picked : IsPickedByRule r
   pub least : ReexecutesLeast (made r)
-  pub setup : (left_by r).setup ≡ r.setup
-  pub honest : IsHonest (left_by r)
-  pub records : (left_by r).records ≡ records r.setup (schedule_in r)
+  pub setup : (resulting_history r).setup ≡ r.setup
+  pub honest : IsHonest (resulting_history r)
+  pub records : (resulting_history r).records ≡ records r.setup (schedule_in r)
 
 -- The first rounds of a plan, those that the workers found.
 abbrev pub rounds_of : Plan → List Found → List Round
@@ -51,4 +51,4 @@ BeginsHonestly b = IfSome b.past IsHonest
 -- encoded.
 pub record CanBeKept (r : Round) : Type 0 where
   pub ended : is_some (made r).machine.ending ≡ true
-  pub encoded : IsEncodable (left_by r)
+  pub encoded : IsEncodable (resulting_history r)

@@ -11,7 +11,7 @@ use Rattle.ith_commands.specs.declared.status.Status.{Status}
 use Rattle.ith_commands.specs.declared.status.Status.TheVariants as status
 use Rattle.ith_commands.specs.Statuses.{status_in}
 use Rattle.ith_commands.specs.Contents.{Plan, workers_of}
-use Rattle.ith_commands.specs.Ends.{HasRounds, texts_of, left_of, new_memo_of, Prints, PrintsAndKeeps, IsDone, RoundsEnd}
+use Rattle.ith_commands.specs.Ends.{HasRounds, texts_of, last_history_of, new_memo_of, Prints, PrintsAndKeeps, IsDone, RoundsEnd}
 use Rattle.ith_commands.specs.Counting.{Work, SpendsTurns, RoundsSpend}
 use Rattle.ith_commands.specs.Refusals.{WhyCutShort, WhyUnkept, WhyUndone}
 use Rattle.ith_commands.specs.Playing.{IsPrepared, AreFound, IsCarriedOut}
@@ -57,7 +57,7 @@ done_by line a b c p earlier later exits ready none done =
       asked = none ∙ ready.reads.asked;
       has = rounds_in line a b p done.found ready done.made;
       all = done.all;
-      keeps = kept_after (new_memo_of line) (memo (left_of p done.found)) a b c (concat (texts_of p done.found))
+      keeps = kept_after (new_memo_of line) (memo (last_history_of p done.found)) a b c (concat (texts_of p done.found))
           ready.reads.stays done.keeps;
       within = done.within;
       ends = done.are_exits;
@@ -107,7 +107,7 @@ unkept :
     (line : Line) (a b m c : World) (p : Plan) (found : List Found) (name : Text) (why : Status)
     → IsPrepared line a b p → AsksNothing b c → AreFound (workers_of line) p found → length found ≡ length p.inputs
     → NoneFell b m → new_memo_of line ≡ Some name → Prints b m (concat (texts_of p found))
-    → WhyUnkept name (memo (left_of p found)) m c why
+    → WhyUnkept name (memo (last_history_of p found)) m c why
     → RoundsEnd line a c why
 unfolding rounds_in
 unkept line a b m c p found name status.WriteFault ready none are all later by prints cause =

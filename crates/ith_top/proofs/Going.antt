@@ -246,7 +246,7 @@ going_played b workers inputs a w now rest exit left earlier later none past goi
       prints = subst (λ (texts : List (List ℕ)). Prints a w (concat texts))
           (sym (going-texts b workers inputs a w earlier.turns later.turns now rest exit going)) going.prints;
       are_exits = ap (list_all made_exits) rounds ∙ sym going.ended;
-      is_left = sym is ∙ ap history_at (sym (going-after b workers inputs a w earlier.turns later.turns now rest exit going));
+      is_last = sym is ∙ ap history_at (sym (going-after b workers inputs a w earlier.turns later.turns now rest exit going));
     }
 
 -- no other round was made

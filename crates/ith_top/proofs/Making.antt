@@ -15,9 +15,9 @@ use Rattle.round_spec.specs.Workers.{IsMadeBy}
 use Rattle.round_spec.specs.Watching.{IsProgress}
 use Rattle.propagate.specs.Consistency.{IsOfMap}
 use Rattle.propagate.proofs.Mapped.{same_image}
-use Rattle.rerun_spec.specs.Rounds.{Found, Round, Beginning, made, left_by, round_on, with_input}
+use Rattle.rerun_spec.specs.Rounds.{Found, Round, Beginning, made, resulting_history, round_on, with_input}
 use Rattle.rerun_spec.specs.Reports.{extras_of, made_extras, data_as_made, is_exit}
-use Rattle.rerun_spec.proofs.Ending.{left-own}
+use Rattle.rerun_spec.proofs.Ending.{resulting-own}
 use Rattle.round_report.specs.Short.{short_text}
 use Rattle.propagate.specs.Executing.{IsCostOf}
 use Rattle.ith_commands.specs.Counting.{IsCounted}
@@ -58,7 +58,7 @@ alike_of r w setup past entries by =
       schedule = ap (λ (v : RoundState). v.schedule) (sym is) ∙ by.schedule;
       machine = ap (λ (v : RoundState). v.machine) (sym is) ∙ by.machine;
       records = ap (λ (v : RoundState). v.records) (sym is) ∙ by.records;
-      setup = left-own r ∙ sym setup;
+      setup = resulting-own r ∙ sym setup;
       past = round-past r.setup r.past (events_in r.found.entries) ∙ sym past;
     }
 
@@ -80,10 +80,10 @@ alike-extras r w alike =
 abbrev the_history : Setup → List Record → History
 the_history s rs = record { setup = s; records = rs }
 
-alike-left : (r : Round) (w : RoundState) → IsAlike r w → history_of w ≡ left_by r
-alike-left r w alike =
+alike-resulting : (r : Round) (w : RoundState) → IsAlike r w → history_of w ≡ resulting_history r
+alike-resulting r w alike =
     ap (λ (s : Setup). the_history s w.records) (sym alike.setup)
-    ∙ ap (the_history (left_by r).setup) (sym alike.records)
+    ∙ ap (the_history (resulting_history r).setup) (sym alike.records)
 
 -- and so is what it cost
 alike-cost :
@@ -139,7 +139,7 @@ made_on workers way b input w f t u text exit next setup past by entries is watc
         past = Some h;
         setup = b.setup;
         asked = b.asked;
-      }) (alike-left r w alike);
+      }) (alike-resulting r w alike);
     }
 
 -- a setup of the same executable has the same page map
@@ -162,4 +162,4 @@ pub left_map :
 left_map workers way b input t u text exit next on =
     let r = round_on b input on.found in
     subst (λ (n : Beginning). IsOfMap n.past n.setup) (sym on.is_next)
-    (same_image (left_by r).setup b.setup (ap image_pages (ap (λ (s : Setup). s.elf) (left-own r))))
+    (same_image (resulting_history r).setup b.setup (ap image_pages (ap (λ (s : Setup). s.elf) (resulting-own r))))

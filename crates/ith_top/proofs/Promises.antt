@@ -13,11 +13,11 @@ use Rattle.round_spec.proofs.Workers.{workers-permitted, workers-complete}
 use Rattle.round_spec.proofs.ByWorkers.{reexecutes-made}
 use Rattle.rerun_spec.specs.Inputs.{AreShort}
 use Rattle.rerun_spec.specs.declared.Asked.{Asked}
-use Rattle.rerun_spec.specs.Rounds.{Found, Round, Beginning, IsMade, left_by, limits_of, with_input, with_limits, asked_by, nothing_asked, from_scratch, after_memo, CanBegin, round_on, after_round, rounds_after, last_left, IsUneditedRerun}
+use Rattle.rerun_spec.specs.Rounds.{Found, Round, Beginning, IsMade, resulting_history, limits_of, with_input, with_limits, asked_by, nothing_asked, from_scratch, after_memo, CanBegin, round_on, after_round, rounds_after, last_history, IsUneditedRerun}
 use Rattle.rerun_spec.proofs.Rounds.{IsSoundlyMade, each-round, each-made, each-short, at-place, with-short, first-past, scratch-begins, memo-begins, round-made, round-found, round-alone, round-honest}
 use Rattle.rerun_spec.proofs.Repeating.{IsAgain, repeated-after, rerun-again, again-reuses, again-instructions, after-schedule, after-machine}
 use Rattle.rerun_spec.proofs.Reports.{reports-made, exits-made}
-use Rattle.rerun_spec.proofs.Ending.{left-own}
+use Rattle.rerun_spec.proofs.Ending.{resulting-own}
 use Rattle.rerun_spec.specs.Encoded.{IsEncodedPast}
 use Rattle.rerun_spec.proofs.Events.{round-encoded}
 use Rattle.ith_host.specs.World.{World}
@@ -25,7 +25,7 @@ use Rattle.ith_words.specs.Words.{Line, Runs, Reruns, Replays, Shows, Explains, 
 use Rattle.ith_commands.specs.Contents.{Plan, IsRerunPlan, IsPlan, setup_of, as_rerun, workers_of, limits_for}
 use Rattle.rerun_spec.specs.Making.{OnlyRepeats}
 use Rattle.ith_commands.specs.Rounds.{IsPromised, ArePromised, BeginsHonestly, CanBeKept, rounds_of}
-use Rattle.ith_commands.specs.Ends.{left_of}
+use Rattle.ith_commands.specs.Ends.{last_history_of}
 use Rattle.ith_commands.specs.Playing.{AreFound, CanBePlayed, CanBeEncoded}
 
 -- the promises on a round hold of each that was soundly made
@@ -39,7 +39,7 @@ promised workers r is =
       alone = λ one. round-alone r (subst (λ (n : ℕ). IsSoundlyMade n r) one is);
       picked = is.made.picked is.can.sound;
       least = reexecutes-made workers r.setup r.past r.found.entries r.found.worker_steps is.can.valid is.made;
-      setup = left-own r;
+      setup = resulting-own r;
       honest = round-honest workers r is;
       records = ap (λ (w : RoundState). w.records) (round-made workers r is);
     }
@@ -73,7 +73,7 @@ promised_after workers b inputs found can short made unedited =
       repeated = λ before after repeated.
           let is = repeated-after b inputs found workers before after can short made repeated in
           record {
-            repeats = again_repeats workers (left_by before) after is.again is.made;
+            repeats = again_repeats workers (resulting_history before) after is.again is.made;
             schedule = after-schedule workers before after is;
             machine = after-machine workers before after is;
           };
@@ -166,12 +166,12 @@ any_after workers b (input ∷ inputs) [] valid elf known short bytes made = tt
 any_after workers b (input ∷ inputs) (f ∷ found) valid elf known short bytes made =
     let r = round_on b input f in
     let may : IsSetup r.setup = with-short b.setup input valid short.0 in
-    let left : IsEncodable (left_by r) =
+    let left : IsEncodable (resulting_history r) =
     round-encoded r.setup r.past (events_in f.entries)
     (record { valid = may; elf_bytes = elf; input_bytes = bytes.0; past = known_on b.past b.setup input known })
     made.0.ended in
-    let own = left-own r in
-    let same : IsSameProgram (left_by r).setup b.setup = ap (λ (s : Setup). s.elf) own in (
+    let own = resulting-own r in
+    let same : IsSameProgram (resulting_history r).setup b.setup = ap (λ (s : Setup). s.elf) own in (
       record { ended = made.0.ended; encoded = left },
       any_after workers (after_round b input f) inputs found valid elf
           (left, same) short.1 bytes.1 made.1,
@@ -197,7 +197,7 @@ each_kept workers p found playable encoded are =
 last_kept :
     (b : Beginning) (inputs : List (List ℕ)) (found : List Found) → 0 < length inputs → length found ≡ length inputs
     → AllByRecursion CanBeKept (rounds_after b inputs found)
-    → IsEncodable (last_left b inputs found)
+    → IsEncodable (last_history b inputs found)
 last_kept b [] found some all any = let no : ⊥ = omega arith in absurd no
 last_kept b (input ∷ inputs) [] some all any = let no : ⊥ = omega arith in absurd no
 last_kept b (input ∷ []) (f ∷ found) some all any = any.0.encoded
@@ -206,7 +206,7 @@ last_kept b (input ∷ next ∷ inputs) (f ∷ found) some all any =
 
 pub last_encoded :
     (workers : ℕ) (p : Plan) (found : List Found) → CanBePlayed p → CanBeEncoded p → AreFound workers p found
-    → length found ≡ length p.inputs → IsEncodable (left_of p found)
+    → length found ≡ length p.inputs → IsEncodable (last_history_of p found)
 last_encoded workers p found playable encoded are all =
     last_kept p.beginning p.inputs found playable.some all
     (recursion_from_All CanBeKept (rounds_of p found) (each_kept workers p found playable encoded are))

@@ -46,9 +46,9 @@ fn carry_out<R: Threads + Wait + Sync, H: Host, G: Gate + Sync>(
         (H.world host.old) (H.world host.new) crew.old.work crew.new.work status) }
     ensures asked { AsksNothing (H.world host.old) (H.world host.new) }
 {
-    let Outcome { exits, left } = make_rounds(alloc, host, plan, crew)?;
+    let Outcome { exits, history } = make_rounds(alloc, host, plan, crew)?;
     if let Some(name) = new_memo {
-        write_memo(alloc, host, name, &left)?;
+        write_memo(alloc, host, name, &history)?;
     }
     Ok(exits)
 }

@@ -87,15 +87,15 @@ fn text_of(
 }
 
 /// The history that the next round is based on.
-fn left_by(alloc: Global, round: Round) -> Result<Arc<History>, AllocError>
+fn resulting_history(alloc: Global, round: Round) -> Result<Arc<History>, AllocError>
     requires { IsOfMap round.past round.setup }
-    ensures { IfOk result (λ left. arc_value left ≡ history_of round) }
+    ensures { IfOk result (λ shared. arc_value shared ≡ history_of round) }
 {
     let Some(history) = round.into_history() else {
         unreachable!()
     };
-    let left = Arc::new(alloc, history)?;
-    Ok(left)
+    let shared = Arc::new(alloc, history)?;
+    Ok(shared)
 }
 
 /// Makes a round from this beginning, on this input, by the workers of the crew, and its text.
@@ -131,10 +131,10 @@ pub fn make_round<R: Threads + Wait + Sync, G: Gate + Sync>(
     let made = crew.make(alloc, number as u64, start, past, asked.progress)?;
     let text = text_of(alloc, number, asked, &made, form, last)?;
     let exited = is_exit(made.round.end());
-    let left = left_by(alloc, made.round)?;
+    let history = resulting_history(alloc, made.round)?;
     let next = Beginning {
         number: number + 1,
-        past: Some(left),
+        past: Some(history),
         setup,
         asked,
     };

@@ -21,7 +21,7 @@ pub struct Outcome {
     /// Whether each ended by exit.
     pub exits: bool,
     /// The history of the last one.
-    pub left: Arc<History>,
+    pub history: Arc<History>,
 }
 
 /// Makes the rounds of a plan, each based on the history of the one before it, and prints the text of each before the
@@ -35,7 +35,7 @@ pub fn make_rounds<R: Threads + Wait + Sync, H: Host, G: Gate + Sync>(
     requires { CanBePlayed (plan_said plan) }
     ensures played { IfOk result (λ outcome. IsPlayed crew.old.workers (plan_said plan)
         (H.world host.old) (H.world host.new) crew.old.work crew.new.work outcome.exits
-        (arc_value outcome.left)) }
+        (arc_value outcome.history)) }
     ensures refused { IfErr result (λ status. IsPlayedInPart crew.old.workers (plan_said plan)
         (H.world host.old) (H.world host.new) crew.old.work crew.new.work status) }
     ensures asked { AsksNothing (H.world host.old) (H.world host.new) }
@@ -63,7 +63,7 @@ pub fn make_rounds<R: Threads + Wait + Sync, H: Host, G: Gate + Sync>(
     }
     let Beginning { past, .. } = beginning;
     match past {
-        Some(left) => Ok(Outcome { exits, left }),
+        Some(history) => Ok(Outcome { exits, history }),
         None => unreachable!(),
     }
 }

@@ -14,16 +14,16 @@ use Rattle.rv_step.specs.Step.{Makes}
 use Rattle.plain_machine.specs.declared.thunk.ThunkResult.{ThunkResult}
 use Rattle.plain_machine.specs.Stored.{bytes_of}
 use Rattle.plain_machine.specs.Merging.{merged}
-use Rattle.plain_machine.specs.Turning.{TurnsOutcome, left_by, left_after, counted, IsDone}
+use Rattle.plain_machine.specs.Turning.{TurnsOutcome, outcome_by, outcome_after, counted, IsDone}
 use Rattle.plain_machine.proofs.Laying.{with_stores-append, marked-append}
 use Rattle.plain_machine.proofs.Merging.{with_stores-merged}
 
 -- the result of a turn, and then of the rest of its thunk
-left_by-after_turn :
+outcome_by-after_turn :
     (map : List Mapped) (memory : Memory) (stored : Masks) (t : Turn) (rest : Thunk)
-    → left_by map memory stored (after_turn t rest)
-    ≡ counted 1 (left_by map (with_stores map memory t.stores) (marked map stored t.stores) rest)
-left_by-after_turn map memory stored t rest =
+    → outcome_by map memory stored (after_turn t rest)
+    ≡ counted 1 (outcome_by map (with_stores map memory t.stores) (marked map stored t.stores) rest)
+outcome_by-after_turn map memory stored t rest =
     rw (with_stores-append map memory t.stores rest.stores, marked-append map stored t.stores rest.stores)
     (ap (λ (n : ℕ). record {
       regs = rest.regs;
@@ -45,21 +45,21 @@ counted-twice a b l = ap (λ (n : ℕ). record l { count = n }) (sym (add_assoc 
 pub turns-next :
     (fuel count : ℕ) (w after : Workspace) (r registers : Registers) (o : Outcome)
     → count < fuel → Makes (turn w.map w.memory r) w o registers after → o ≡ outcome.Next
-    → counted (count + 1) (left_after after.map (fuel - (count + 1)) after.memory after.stored registers)
-    ≡ counted count (left_after w.map (fuel - count) w.memory w.stored r)
+    → counted (count + 1) (outcome_after after.map (fuel - (count + 1)) after.memory after.stored registers)
+    ≡ counted count (outcome_after w.map (fuel - count) w.memory w.stored r)
 turns-next fuel count w after r registers o lt made next =
     let left : fuel - count ≡ suc (fuel - (count + 1)) = omega arith in
     rw (left, made.workspace_is, made.regs_are)
     (sym
-    (ap (λ (t : Thunk). counted count (left_by w.map w.memory w.stored t))
+    (ap (λ (t : Thunk). counted count (outcome_by w.map w.memory w.stored t))
     (followed-next (turn w.map w.memory r).outcome w.map w.memory (turn w.map w.memory r)
     (turns w.map (fuel - (count + 1))) (sym made.outcome_is ∙ next))
     ∙ ap (counted count)
-    (left_by-after_turn w.map w.memory w.stored (turn w.map w.memory r)
+    (outcome_by-after_turn w.map w.memory w.stored (turn w.map w.memory r)
     (turns w.map (fuel - (count + 1)) (with_stores w.map w.memory (turn w.map w.memory r).stores)
     (turn w.map w.memory r).regs))
     ∙ counted-twice count 1
-    (left_after w.map (fuel - (count + 1)) (with_stores w.map w.memory (turn w.map w.memory r).stores)
+    (outcome_after w.map (fuel - (count + 1)) (with_stores w.map w.memory (turn w.map w.memory r).stores)
     (marked w.map w.stored (turn w.map w.memory r).stores)
     (turn w.map w.memory r).regs)))
 
@@ -70,7 +70,7 @@ pub is-done :
     → work ≡ record { map = f.map; view = []; memory = view; stored = on_each no_marks f.map; taken = [] }
     → after.map ≡ work.map
     → record { regs = d.regs; end = d.end; count = d.count; memory = after.memory; stored = after.stored }
-    ≡ left_after work.map f.fuel work.memory work.stored start
+    ≡ outcome_after work.map f.fuel work.memory work.stored start
     → d.put.items ≡ bytes_at f.map after.memory (put_addresses f.map d.end d.regs)
     → ((shared : Memory) → IsMemory after.map shared
     → with_stores after.map shared (bytes_of d.stores.items) ≡ merged after.stored after.memory shared)
@@ -84,8 +84,8 @@ is-done f view start work after d whole is same left put applies =
       count = d.count;
       memory = after.memory;
       stored = after.stored;
-    } ≡ left_after f.map f.fuel view (on_each no_marks f.map) start =
-    left ∙ ap (λ (w : Workspace). left_after w.map f.fuel w.memory w.stored start) is in
+    } ≡ outcome_after f.map f.fuel view (on_each no_marks f.map) start =
+    left ∙ ap (λ (w : Workspace). outcome_after w.map f.fuel w.memory w.stored start) is in
     record {
       regs = ap (λ (l : TurnsOutcome). l.regs) all;
       end = ap (λ (l : TurnsOutcome). l.end) all;

@@ -18,8 +18,8 @@ pub record TurnsOutcome : Type 0 where
   pub stored : Masks
 
 -- The result of a thunk's turns on a memory.
-abbrev pub left_by : List Mapped → Memory → Masks → Thunk → TurnsOutcome
-left_by map memory stored t =
+abbrev pub outcome_by : List Mapped → Memory → Masks → Thunk → TurnsOutcome
+outcome_by map memory stored t =
     record {
       regs = t.regs;
       end = t.end;
@@ -29,8 +29,8 @@ left_by map memory stored t =
     }
 
 -- The result of at most so many turns, from a memory and registers.
-abbrev pub left_after : List Mapped → ℕ → Memory → Masks → Registers → TurnsOutcome
-left_after map fuel memory stored r = left_by map memory stored (turns map fuel memory r)
+abbrev pub outcome_after : List Mapped → ℕ → Memory → Masks → Registers → TurnsOutcome
+outcome_after map fuel memory stored r = outcome_by map memory stored (turns map fuel memory r)
 
 -- The same, with so many earlier turns counted.
 abbrev pub counted : ℕ → TurnsOutcome → TurnsOutcome

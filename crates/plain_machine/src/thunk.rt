@@ -3,7 +3,7 @@
 ghost use Rattle.std.specs.Prelude.{◌≡◌, ◌+◌, ◌≤◌, IfOk};
 ghost use Rattle.std.specs.Arc.{arc_value};
 ghost use Rattle.memory_spec.specs.Pages.{IsMemory};
-ghost use Rattle.plain_machine.specs.Turning.{left_after, IsDone};
+ghost use Rattle.plain_machine.specs.Turning.{outcome_after, IsDone};
 
 use super::memory::Memory;
 use super::put::put_bytes;
@@ -42,13 +42,13 @@ fn make_turns(
     ensures never_lower { turns.old ≤ turns.new }
     ensures most { IfOk result (λ e. e.count ≤ fuel) }
     ensures map { IfOk result (λ e. work.new.map ≡ work.old.map) }
-    ensures left { IfOk result (λ e. record {
+    ensures outcome { IfOk result (λ e. record {
       regs = regs.new;
       end = e.end;
       count = e.count;
       memory = work.new.memory;
       stored = work.new.stored;
-    } ≡ left_after work.old.map fuel work.old.memory work.old.stored regs.old) }
+    } ≡ outcome_after work.old.map fuel work.old.memory work.old.stored regs.old) }
 {
     let mut count = 0;
     while count < fuel {

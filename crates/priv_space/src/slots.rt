@@ -247,7 +247,7 @@ impl Slots {
             ≡ deltas.old.items
             ++ delta_part slot (slot_marks (slice_index_or self.old slot untouched))
             (slot_bytes page (slice_index_or self.old slot untouched))) }
-        ensures left { self.new ≡ slice_set self.old slot untouched }
+        ensures emptied { self.new ≡ slice_set self.old slot untouched }
     {
         let place = place_of(&self.places, slot);
         let given = mem::replace(&mut self.held[place], Slot::new());

@@ -129,9 +129,10 @@ pub fn run_alone_shown<G: Gate>(
 /// instructions of the executed steps, and the other one by the pages that are compared.
 ///
 /// If the round is based on a sound history, its schedule is the one of one worker, which is permitted and complete,
-/// its machine is the one from scratch, its marks are exact, and each entry was picked rightly. If the setup is also
-/// the history's own, the round only reuses, and the counters stay as they are; that of compared pages does so with any
-/// coherent history of the setup. If a round works as its history did, it executes no more than its setup reaches.
+/// its machine is the one from scratch, its marks are exact, and each entry was chosen by the rule. If the setup is
+/// also the history's own, the round only reuses, and the counters stay as they are; that of compared pages does so
+/// with any coherent history of the setup. If a round works as its history did, it executes no more than its setup
+/// reaches.
 ///
 /// # Errors
 ///

@@ -18,7 +18,7 @@ use Rattle.round_spec.proofs.Leaving.{round-setup}
 use Rattle.round_spec.specs.Working.{ReexecutesLeast}
 use Rattle.round_spec.proofs.ByWorkers.{reexecutes-made}
 use Rattle.rerun_spec.specs.Inputs.{AreShort}
-use Rattle.rerun_spec.specs.Rounds.{with_input, Found, Round, made, IsMade, left_by, schedule_in, Beginning, IsOfProgram, round_on, after_round, rounds_after, after_rounds}
+use Rattle.rerun_spec.specs.Rounds.{with_input, Found, Round, made, IsMade, resulting_history, schedule_in, Beginning, IsOfProgram, round_on, after_round, rounds_after, after_rounds}
 use Rattle.rerun_spec.proofs.Rounds.{EachShort, each-short, with-short}
 
 -- a round is made by the events of its entries
@@ -35,9 +35,9 @@ pub round-stands : (workers : ℕ) (r : Round) → IsMade workers r → (made r)
 round-stands workers r is = is.stands
 
 -- the history is of the schedule that was found
-pub left-found :
-    (workers : ℕ) (r : Round) → IsSetup r.setup → IsMade workers r → schedule_of (left_by r) ≡ schedule_in r
-left-found workers r valid is = (round-counts r valid).threads ∙ ap threads_of is.stands
+pub resulting-found :
+    (workers : ℕ) (r : Round) → IsSetup r.setup → IsMade workers r → schedule_of (resulting_history r) ≡ schedule_in r
+resulting-found workers r valid is = (round-counts r valid).threads ∙ ap threads_of is.stands
 
 -- the round executes no more steps than it must
 pub round-least : (workers : ℕ) (r : Round) → IsSetup r.setup → IsMade workers r → ReexecutesLeast (made r)
@@ -129,18 +129,18 @@ valid-made-holds P holds b inputs found workers valid short made = λ k d below.
     holds workers (slice_index_or (rounds_after b inputs found) k d)
     (all-valid b inputs found valid short k d below) (made k d below)
 
-pub left-own : (r : Round) → (left_by r).setup ≡ r.setup
-left-own r = made-setup r
+pub resulting-own : (r : Round) → (resulting_history r).setup ≡ r.setup
+resulting-own r = made-setup r
 
 -- its history is of the same program
 program-left :
-    (b : Beginning) (input : List ℕ) (f : Found) → IsSameProgram (left_by (round_on b input f)).setup b.setup
+    (b : Beginning) (input : List ℕ) (f : Found) → IsSameProgram (resulting_history (round_on b input f)).setup b.setup
 program-left b input f =
-    ap (λ (t : Setup). t.elf) (left-own (round_on b input f))
+    ap (λ (t : Setup). t.elf) (resulting-own (round_on b input f))
 
 program-each :
     (b : Beginning) (inputs : List (List ℕ)) (found : List Found)
-    → AllByRecursion (λ r. IsSameProgram (left_by r).setup b.setup) (rounds_after b inputs found)
+    → AllByRecursion (λ r. IsSameProgram (resulting_history r).setup b.setup) (rounds_after b inputs found)
 program-each b [] found = tt
 program-each b (input ∷ inputs) [] = tt
 program-each b (input ∷ inputs) (f ∷ found) =
@@ -148,9 +148,9 @@ program-each b (input ∷ inputs) (f ∷ found) =
 
 pub same-program :
     (b : Beginning) (inputs : List (List ℕ)) (found : List Found)
-    → All (λ r. IsSameProgram (left_by r).setup b.setup) (rounds_after b inputs found)
+    → All (λ r. IsSameProgram (resulting_history r).setup b.setup) (rounds_after b inputs found)
 same-program b inputs found =
-    All-from_recursion (λ r. IsSameProgram (left_by r).setup b.setup) (rounds_after b inputs found)
+    All-from_recursion (λ r. IsSameProgram (resulting_history r).setup b.setup) (rounds_after b inputs found)
     (program-each b inputs found)
 
 -- so each round is based on a history of its program

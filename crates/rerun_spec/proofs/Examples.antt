@@ -13,7 +13,7 @@ use Rattle.edit_spec.proofs.Encoding.{digits-decimal, same_around_space, other_w
 use Rattle.edit_spec.proofs.Examples.{five, zero_is_encoded}
 use Rattle.rerun_spec.specs.declared.Asked.{Asked}
 use Rattle.rerun_spec.specs.Inputs.{Makes, AreInputs, AreRerunInputs, BadLine, OutOfRange, IsFirstRefused}
-use Rattle.rerun_spec.specs.Rounds.{Found, Round, limits_of, with_input, with_limits, left_by, from_scratch, after_memo, round_on, after_round, rounds_after, after_rounds, last_left, IsRepeated, IsUneditedRerun}
+use Rattle.rerun_spec.specs.Rounds.{Found, Round, limits_of, with_input, with_limits, resulting_history, from_scratch, after_memo, round_on, after_round, rounds_after, after_rounds, last_history, IsRepeated, IsUneditedRerun}
 use Rattle.rerun_spec.specs.Reports.{is_exit}
 use Rattle.edit_spec.proofs.Deciding.{no-byte-odd}
 
@@ -95,7 +95,7 @@ pub rounds-two :
     ∷ record {
       number = 1;
       setup = with_input s b;
-      past = Some (left_by (record { number = 0; setup = with_input s a; past = None; asked = asked; found = f }));
+      past = Some (resulting_history (record { number = 0; setup = with_input s a; past = None; asked = asked; found = f }));
       asked = asked;
       found = g;
     }
@@ -112,7 +112,7 @@ pub reruns-two :
       number = 2;
       setup = with_input (with_limits h.setup limits) b;
       past =
-          Some (left_by
+          Some (resulting_history
           (record { number = 1; setup = with_input (with_limits h.setup limits) a; past = Some h; asked = asked; found = f }));
       asked = asked;
       found = g;
@@ -130,24 +130,24 @@ rounds-one_of_two s asked a b f = refl
 -- Its history is the last one; and without a round the memo's history is.
 pub left-two :
     (h : History) (limits : Limits) (asked : Asked) (a b : List ℕ) (f g : Found)
-    → last_left (after_memo h limits asked) (a ∷ b ∷ []) (f ∷ g ∷ [])
-    ≡ left_by (record {
+    → last_history (after_memo h limits asked) (a ∷ b ∷ []) (f ∷ g ∷ [])
+    ≡ resulting_history (record {
       number = 2;
       setup = with_input (with_limits h.setup limits) b;
       past =
-          Some (left_by
+          Some (resulting_history
           (record { number = 1; setup = with_input (with_limits h.setup limits) a; past = Some h; asked = asked; found = f }));
       asked = asked;
       found = g;
     })
 left-two h limits asked a b f g = refl
 
-pub left-none : (h : History) (limits : Limits) (asked : Asked) (found : List Found) → last_left (after_memo h limits asked) [] found ≡ h
-left-none h limits asked found = refl
+pub last-none : (h : History) (limits : Limits) (asked : Asked) (found : List Found) → last_history (after_memo h limits asked) [] found ≡ h
+last-none h limits asked found = refl
 
 -- From scratch and without a round, it is a history of no steps.
 pub left-scratch :
-    (s : Setup) (asked : Asked) (found : List Found) → last_left (from_scratch s asked) [] found ≡ record { setup = s; records = [] }
+    (s : Setup) (asked : Asked) (found : List Found) → last_history (from_scratch s asked) [] found ≡ record { setup = s; records = [] }
 left-scratch s asked found = refl
 
 -- The third round is without an edit, though the second isn't.

@@ -1,7 +1,7 @@
 -- Rounds that are made one after the other: as more is found, there are more.
 use Rattle.std.proofs.Common.{◌≡◌, ◌≢◌, ◌≤◌, ◌+◌, ℕ, zero, suc, min, List, [], ◌∷◌, ◌++◌, length, drop, slice_get, Some, None, refl, ap, ◌∙◌, arith}
 use Rattle.std.proofs.lemmas.Option.{same_Some}
-use Rattle.rerun_spec.specs.Rounds.{Found, Round, left_by, Beginning, round_on, after_round, rounds_after, after_rounds, history_at, last_left}
+use Rattle.rerun_spec.specs.Rounds.{Found, Round, resulting_history, Beginning, round_on, after_round, rounds_after, after_rounds, history_at, last_history}
 
 -- if nothing was found, there is no round
 pub none-found : (b : Beginning) (inputs : List (List ℕ)) → rounds_after b inputs [] ≡ []
@@ -67,7 +67,7 @@ after-one b inputs found input f is =
 pub last-one :
     (b : Beginning) (inputs : List (List ℕ)) (found : List Found) (input : List ℕ) (f : Found)
     → slice_get inputs (length found) ≡ Some input
-    → last_left b inputs (found ++ f ∷ []) ≡ left_by (round_on (after_rounds b inputs found) input f)
+    → last_history b inputs (found ++ f ∷ []) ≡ resulting_history (round_on (after_rounds b inputs found) input f)
 last-one b inputs found input f is = ap (λ (c : Beginning). history_at c) (after-one b inputs found input f is)
 
 -- rounds for which something was found need no later inputs
@@ -114,7 +114,7 @@ asked-later b (input ∷ inputs) (f ∷ found) = asked-later (after_round b inpu
 -- after a round there is a history, that of the last round
 pub past-later :
     (b : Beginning) (inputs : List (List ℕ)) (found : List Found) → inputs ≢ [] → found ≢ []
-    → (after_rounds b inputs found).past ≡ Some (last_left b inputs found)
+    → (after_rounds b inputs found).past ≡ Some (last_history b inputs found)
 past-later b [] found some one = absurd (some refl)
 past-later b (input ∷ inputs) [] some one = absurd (one refl)
 past-later b (input ∷ []) (f ∷ found) some one = refl

@@ -18,8 +18,8 @@ use Rattle.round_spec.proofs.Workers.{workers-threads, workers-reuse}
 use Rattle.round_spec.specs.Workers.{IsMadeBy}
 use Rattle.rerun_spec.specs.declared.Asked.{Asked}
 use Rattle.rerun_spec.specs.Inputs.{AreShort}
-use Rattle.rerun_spec.specs.Rounds.{limits_of, with_input, with_limits, Found, Round, made, IsMade, left_by, Beginning, after_memo, CanBegin, round_on, rounds_after, schedule_in, entries_of, machine_of, IsRepeated, IsUneditedRerun}
-use Rattle.rerun_spec.proofs.Rounds.{IsSoundlyMade, round-honest, left-setup, left-schedule, each-round, IsNext, next-after, at-place}
+use Rattle.rerun_spec.specs.Rounds.{limits_of, with_input, with_limits, Found, Round, made, IsMade, resulting_history, Beginning, after_memo, CanBegin, round_on, rounds_after, schedule_in, entries_of, machine_of, IsRepeated, IsUneditedRerun}
+use Rattle.rerun_spec.proofs.Rounds.{IsSoundlyMade, round-honest, resulting-setup, resulting-schedule, each-round, IsNext, next-after, at-place}
 
 -- a round that is based on an honest history, with that history's setup
 pub record IsAgain (h : History) (r : Round) : Type 0 where
@@ -29,10 +29,10 @@ pub record IsAgain (h : History) (r : Round) : Type 0 where
 
 -- so does a round on the input of the round before it
 pub record IsAfter (workers : ℕ) (before after : Round) : Type 0 where
-  pub again : IsAgain (left_by before) after
+  pub again : IsAgain (resulting_history before) after
   pub made : IsMade workers after
   pub setup : after.setup ≡ before.setup
-  pub schedule : schedule_of (left_by before) ≡ schedule_in before
+  pub schedule : schedule_of (resulting_history before) ≡ schedule_in before
 
 pub repeated-after :
     (b : Beginning) (inputs : List (List ℕ)) (found : List Found) (workers : ℕ) (before after : Round)
@@ -53,11 +53,11 @@ repeated-after b inputs found workers before after can short made repeated =
       again = record {
         honest = round-honest workers before is;
         past = next.left;
-        setup = left-setup workers before is ∙ sym same;
+        setup = resulting-setup workers before is ∙ sym same;
       };
       made = its.made;
       setup = same;
-      schedule = left-schedule workers before is;
+      schedule = resulting-schedule workers before is;
     }
 
 -- so does the first round of a rerun on the memo's input with its limits
@@ -150,7 +150,7 @@ again-machine workers h r again is =
 pub after-schedule :
     (workers : ℕ) (before after : Round) → IsAfter workers before after → schedule_in after ≡ schedule_in before
 after-schedule workers before after is =
-    again-schedule workers (left_by before) after is.again is.made ∙ is.schedule
+    again-schedule workers (resulting_history before) after is.again is.made ∙ is.schedule
 
 pub after-machine :
     (workers : ℕ) (before after : Round) → IsAfter workers before after → machine_of after ≡ machine_of before

@@ -20,7 +20,7 @@ use Rattle.round_spec.proofs.Workers.{lone-made, workers-round, workers-permitte
 use Rattle.round_spec.proofs.Cost.{rounds-cost}
 use Rattle.rerun_spec.specs.declared.Asked.{Asked}
 use Rattle.rerun_spec.specs.Inputs.{AreInputs, AreShort}
-use Rattle.rerun_spec.specs.Rounds.{with_input, with_limits, Found, Round, made, IsMade, IsPickedRightly, left_by, Beginning, from_scratch, after_memo, CanBegin, round_on, after_round, rounds_after, after_rounds, last_left, schedule_in, entries_of, machine_of}
+use Rattle.rerun_spec.specs.Rounds.{with_input, with_limits, Found, Round, made, IsMade, IsPickedByRule, resulting_history, Beginning, from_scratch, after_memo, CanBegin, round_on, after_round, rounds_after, after_rounds, last_history, schedule_in, entries_of, machine_of}
 
 -- a round that its workers made, based on a history that it can be based on
 pub record IsSoundlyMade (workers : ℕ) (r : Round) : Type 0 where
@@ -47,11 +47,11 @@ pub round-made :
     (workers : ℕ) (r : Round) → IsSoundlyMade workers r → made r ≡ made_by r.setup r.past (schedule_in r)
 round-made workers r is = workers-round workers r.setup r.past r.found.entries r.found.worker_steps is.can is.made
 
-pub round-honest : (workers : ℕ) (r : Round) → IsSoundlyMade workers r → IsHonest (left_by r)
+pub round-honest : (workers : ℕ) (r : Round) → IsSoundlyMade workers r → IsHonest (resulting_history r)
 round-honest workers r is = workers-honest workers r.setup r.past r.found.entries r.found.worker_steps is.can is.made
 
-pub left-setup : (workers : ℕ) (r : Round) → IsSoundlyMade workers r → (left_by r).setup ≡ r.setup
-left-setup workers r is = ap (λ (w : RoundState). w.setup) (round-made workers r is)
+pub resulting-setup : (workers : ℕ) (r : Round) → IsSoundlyMade workers r → (resulting_history r).setup ≡ r.setup
+resulting-setup workers r is = ap (λ (w : RoundState). w.setup) (round-made workers r is)
 
 -- the first round of a beginning can be based on its history, and each round that follows on its own
 first-can :
@@ -64,7 +64,7 @@ goes-on :
     (b : Beginning) (input : List ℕ) (f : Found) (workers : ℕ)
     → CanBegin b → IsSoundlyMade workers (round_on b input f) → CanBegin (after_round b input f)
 goes-on b input f workers can is =
-    let same = left-setup workers (round_on b input f) is in
+    let same = resulting-setup workers (round_on b input f) is in
     record {
       valid = can.valid;
       sound = (
@@ -170,7 +170,7 @@ memo-begins h limits asked honest within =
 honest-after :
     (b : Beginning) (input : List ℕ) (inputs : List (List ℕ)) (f : Found) (found : List Found) (workers : ℕ)
     → CanBegin b → EachShort (input ∷ inputs) → EachMade workers (rounds_after b (input ∷ inputs) (f ∷ found))
-    → IsHonest (last_left b (input ∷ inputs) (f ∷ found))
+    → IsHonest (last_history b (input ∷ inputs) (f ∷ found))
 honest-after b input [] f found workers can short made =
     round-honest workers (round_on b input f) (first-made b input f workers can short.0 made.0)
 honest-after b input (next ∷ inputs) f [] workers can short made =
@@ -182,7 +182,7 @@ honest-after b input (next ∷ inputs) f (g ∷ found) workers can short made =
 pub last-honest :
     (b : Beginning) (inputs : List (List ℕ)) (found : List Found) (workers : ℕ)
     → CanBegin b → AreShort inputs → All (IsMade workers) (rounds_after b inputs found) → inputs ≢ [] → found ≢ []
-    → IsHonest (last_left b inputs found)
+    → IsHonest (last_history b inputs found)
 last-honest b [] found workers can short made some one = absurd (some refl)
 last-honest b (input ∷ inputs) [] workers can short made some one = absurd (one refl)
 last-honest b (input ∷ inputs) (f ∷ found) workers can short made some one =
@@ -211,7 +211,7 @@ round-entries workers r is = ap (λ (w : RoundState). w.schedule) (round-made wo
 pub round-found : (workers : ℕ) (r : Round) → IsSoundlyMade workers r → r.found.entries ≡ entries_of r
 round-found workers r is = workers-marks workers r.setup r.past r.found.entries r.found.worker_steps is.can is.made
 
-pub round-picked : (workers : ℕ) (r : Round) → IsSoundlyMade workers r → IsPickedRightly r
+pub round-picked : (workers : ℕ) (r : Round) → IsSoundlyMade workers r → IsPickedByRule r
 round-picked workers r is = is.made.picked is.can.sound
 
 pub round-machine :
@@ -226,8 +226,8 @@ pub round-records :
 round-records workers r is =
     ap (λ (w : RoundState). w.records) (round-made workers r is) ∙ ap (records r.setup) (sym (round-threads r))
 
-pub left-schedule : (workers : ℕ) (r : Round) → IsSoundlyMade workers r → schedule_of (left_by r) ≡ schedule_in r
-left-schedule workers r is =
+pub resulting-schedule : (workers : ℕ) (r : Round) → IsSoundlyMade workers r → schedule_of (resulting_history r) ≡ schedule_in r
+resulting-schedule workers r is =
     ap (λ (w : RoundState). threads_of_records w.records) (round-made workers r is)
     ∙ records-threads (first r.setup) (schedule_in r)
 
@@ -410,7 +410,7 @@ first-setup b lists (input ∷ inputs) (f ∷ found) r are is =
 
 -- one round and the next after it
 pub record IsNext (s : Setup) (before after : Round) : Type 0 where
-  pub left : after.past ≡ Some (left_by before)
+  pub left : after.past ≡ Some (resulting_history before)
   pub before_setup : before.setup ≡ with_input s before.setup.input
   pub after_setup : after.setup ≡ with_input s after.setup.input
 
@@ -419,7 +419,7 @@ next-of :
     → round_on b x f ≡ before → round_on (after_round b x f) y g ≡ after → IsNext b.setup before after
 next-of b x y f g before after one next =
     record {
-      left = sym (ap (λ (r : Round). r.past) next) ∙ ap (λ (r : Round). Some (left_by r)) one;
+      left = sym (ap (λ (r : Round). r.past) next) ∙ ap (λ (r : Round). Some (resulting_history r)) one;
       before_setup = subst (λ (r : Round). r.setup ≡ with_input b.setup r.setup.input) one refl;
       after_setup = subst (λ (r : Round). r.setup ≡ with_input b.setup r.setup.input) next refl;
     }

@@ -11,7 +11,7 @@ use Rattle.round_spec.specs.Instructions.{executed_instructions}
 use Rattle.round_spec.specs.Unedited.{OnlyReuses}
 use Rattle.round_spec.specs.OneWorker.{executed_in}
 use Rattle.rerun_spec.specs.Inputs.{AreShort}
-use Rattle.rerun_spec.specs.Rounds.{Found, Round, Beginning, made, IsMade, IsPickedRightly, left_by, CanBegin, rounds_after, schedule_in, entries_of, machine_of}
+use Rattle.rerun_spec.specs.Rounds.{Found, Round, Beginning, made, IsMade, IsPickedByRule, resulting_history, CanBegin, rounds_after, schedule_in, entries_of, machine_of}
 use Rattle.rerun_spec.specs.Reports.{extras_in, report_of, is_exit, exits}
 
 -- So many workers make rounds on inputs that are short enough, from a beginning whose setup may be run and whose
@@ -35,7 +35,7 @@ pub record IsAsReported (r : Round) : Type 0 where
   pub complete : is_complete r.setup (threads_of (entries_of r)) ≡ true
   pub entries : (made r).schedule ≡ entries_of r
   pub marks : r.found.entries ≡ entries_of r
-  pub picked : IsPickedRightly r
+  pub picked : IsPickedByRule r
   pub machine : (made r).machine ≡ scratch r.setup (threads_of (entries_of r))
   pub records : (made r).records ≡ records r.setup (threads_of (entries_of r))
   pub ends : is_some (machine_of r).ending ≡ true
@@ -59,7 +59,7 @@ pub record OnlyRepeats (h : History) (r : Round) : Type 0 where
 -- A round does what the round before it did, and executes nothing: it only reuses the history of that one; its schedule
 -- and its machine, and with it end, output and final memory, are those of the round before.
 pub record Repeats (before after : Round) : Type 0 where
-  pub repeats : OnlyRepeats (left_by before) after
+  pub repeats : OnlyRepeats (resulting_history before) after
   pub schedule : schedule_in after ≡ schedule_in before
   pub machine : machine_of after ≡ machine_of before
 

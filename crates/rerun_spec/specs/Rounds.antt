@@ -64,12 +64,12 @@ abbrev pub IsWatched : ℕ → Round → Type 0
 IsWatched workers r = r.asked.progress ≡ true → IsProgress workers (length r.found.entries) r.found.progress
 
 -- Each entry of a round was chosen by the rule when the schedule had some length.
-abbrev pub IsPickedRightly : Round → Type 0
-IsPickedRightly r = (points : List ℕ) × ArePicked r.setup r.past r.found.entries points
+abbrev pub IsPickedByRule : Round → Type 0
+IsPickedByRule r = (points : List ℕ) × ArePicked r.setup r.past r.found.entries points
 
 -- The history of a round, which the next one is based on.
-abbrev pub left_by : Round → History
-left_by r = history_of (made r)
+abbrev pub resulting_history : Round → History
+resulting_history r = history_of (made r)
 
 -- What rounds begin with: the number of the first, the history that it is based on, if there is one, the setup whose
 -- program all of them run, each on its own input, and which lines are requested in their reports.
@@ -105,7 +105,7 @@ round_on b input found =
 -- What the rounds after the first begin with: the next number, and the history of the first.
 abbrev pub after_round : Beginning → List ℕ → Found → Beginning
 after_round b input found =
-    record { number = b.number + 1; past = Some (left_by (round_on b input found)); setup = b.setup; asked = b.asked }
+    record { number = b.number + 1; past = Some (resulting_history (round_on b input found)); setup = b.setup; asked = b.asked }
 
 -- The rounds on the first of some inputs, one for each thing that was found, in order: the first is based on the
 -- history of the beginning, if there is one, and each other on that of the round before it.
@@ -125,8 +125,8 @@ abbrev pub history_at : Beginning → History
 history_at b = unwrap_or b.past (record { setup = b.setup; records = [] })
 
 -- The history of the last of these rounds; if there is none, that of the beginning.
-abbrev pub last_left : Beginning → List (List ℕ) → List Found → History
-last_left b inputs found = history_at (after_rounds b inputs found)
+abbrev pub last_history : Beginning → List (List ℕ) → List Found → History
+last_history b inputs found = history_at (after_rounds b inputs found)
 
 -- The schedule that a round's workers found, by threads alone.
 abbrev pub schedule_in : Round → List ℕ

@@ -25,7 +25,7 @@ ghost use Rattle.memo_spec.specs.Reading.{reading};
 ghost use Rattle.memo_spec.specs.Old.{is_before_m};
 ghost use Rattle.rerun_spec.specs.Inputs.{Makes, AreInputs, AreRerunInputs, AreShort, Refusal, Refuses, IsFirstRefused};
 ghost use Rattle.rerun_spec.specs.declared.Asked.{Asked as AskedFor};
-ghost use Rattle.rerun_spec.specs.Rounds.{Found, Round, Beginning, limits_of, with_input, with_limits, made, IsMade, left_by, from_scratch, after_memo, CanBegin, round_on, after_round, rounds_after, after_rounds, IsOfProgram, last_left, schedule_in, entries_of, IsRepeated, IsUneditedRerun};
+ghost use Rattle.rerun_spec.specs.Rounds.{Found, Round, Beginning, limits_of, with_input, with_limits, made, IsMade, resulting_history, from_scratch, after_memo, CanBegin, round_on, after_round, rounds_after, after_rounds, IsOfProgram, last_history, schedule_in, entries_of, IsRepeated, IsUneditedRerun};
 ghost use Rattle.rerun_spec.specs.Making.{AreMade, ComesToAnEnd, IsAsReported, FollowsTheChoice, Repeats, RepeatsHistory, PicksNoneToExecute};
 ghost use Rattle.rerun_spec.specs.Reports.{all_executed, extras_of, report_of, reports_of, is_exit, exits, all_exit, made_report, made_reports, made_exits, all_made_exit};
 ghost use Rattle.rerun_spec.specs.Encoded.{IsEncodedPast, IsEncodedStart};
@@ -163,11 +163,11 @@ pub fn rounds_follow_each_other()
         (r : Round)
         → slice_get (rounds_after (from_scratch setup asked) inputs found) 0 ≡ Some r
         → r.past ≡ None }
-    ensures left { (b : Beginning) (inputs : List (List ℕ)) (found : List Found) (place : ℕ)
+    ensures resulting { (b : Beginning) (inputs : List (List ℕ)) (found : List Found) (place : ℕ)
         (before after : Round)
         → slice_get (rounds_after b inputs found) place ≡ Some before
         → slice_get (rounds_after b inputs found) (suc place) ≡ Some after
-        → after.past ≡ Some (left_by before) }
+        → after.past ≡ Some (resulting_history before) }
 {}
 
 /// The rounds can be made one after the other, each from the beginning that the ones before it make; and the next would
@@ -194,8 +194,8 @@ pub fn rounds_go_on()
     ensures last { (b : Beginning) (inputs : List (List ℕ)) (found : List Found) (input : List ℕ)
         (f : Found)
         → slice_get inputs (length found) ≡ Some input
-        → last_left b inputs (found ++ f ∷ [])
-        ≡ left_by (round_on (after_rounds b inputs found) input f) }
+        → last_history b inputs (found ++ f ∷ [])
+        ≡ resulting_history (round_on (after_rounds b inputs found) input f) }
     ensures few { (b : Beginning) (inputs rest : List (List ℕ)) (found : List Found)
         → length found ≤ length inputs
         → rounds_after b (inputs ++ rest) found ≡ rounds_after b inputs found }
@@ -211,7 +211,7 @@ pub fn rounds_go_on()
     ensures past { (b : Beginning) (inputs : List (List ℕ)) (found : List Found)
         → inputs ≢ []
         → found ≢ []
-        → (after_rounds b inputs found).past ≡ Some (last_left b inputs found) }
+        → (after_rounds b inputs found).past ≡ Some (last_history b inputs found) }
 {}
 
 /// The rounds can be reported one after the other, each as it was made, which makes the reports of all of them, in
@@ -256,11 +256,11 @@ pub fn each_round_comes_to_an_end()
         → IsSetup b.setup
         → AreShort inputs
         → All (IsMade workers) (rounds_after b inputs found)
-        → All (λ r. schedule_of (left_by r) ≡ schedule_in r) (rounds_after b inputs found) }
+        → All (λ r. schedule_of (resulting_history r) ≡ schedule_in r) (rounds_after b inputs found) }
     ensures setup { (b : Beginning) (inputs : List (List ℕ)) (found : List Found)
-        → All (λ (r : Round). (left_by r).setup ≡ r.setup) (rounds_after b inputs found) }
+        → All (λ (r : Round). (resulting_history r).setup ≡ r.setup) (rounds_after b inputs found) }
     ensures program { (b : Beginning) (inputs : List (List ℕ)) (found : List Found)
-        → All (λ r. IsSameProgram (left_by r).setup b.setup) (rounds_after b inputs found) }
+        → All (λ r. IsSameProgram (resulting_history r).setup b.setup) (rounds_after b inputs found) }
     ensures past { (b : Beginning) (inputs : List (List ℕ)) (found : List Found)
         → IsOfProgram b.past b.setup
         → All (λ (r : Round). IsOfProgram r.past r.setup) (rounds_after b inputs found) }
@@ -288,12 +288,12 @@ pub fn each_round_may_be_made()
         → CanBegin (after_rounds b inputs found) }
     ensures honest { (b : Beginning) (inputs : List (List ℕ)) (found : List Found) (workers : ℕ)
         → AreMade b inputs found workers
-        → All (λ r. IsHonest (left_by r)) (rounds_after b inputs found) }
+        → All (λ r. IsHonest (resulting_history r)) (rounds_after b inputs found) }
     ensures last { (b : Beginning) (inputs : List (List ℕ)) (found : List Found) (workers : ℕ)
         → AreMade b inputs found workers
         → inputs ≢ []
         → found ≢ []
-        → IsHonest (last_left b inputs found) }
+        → IsHonest (last_history b inputs found) }
     ensures some { (b : Beginning) (inputs : List (List ℕ)) (workers : ℕ)
         → IsSetup b.setup
         → AreShort inputs

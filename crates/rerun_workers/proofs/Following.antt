@@ -15,7 +15,7 @@ use Rattle.round_spec.proofs.Happening.{happens-kept}
 use Rattle.round_spec.proofs.Leaving.{same-happens}
 use Rattle.round_spec.specs.Replaying.{IsReplaying, goes_on_by}
 use Rattle.round_spec.proofs.Replay.{unedited-repeats, replays-start, replays-on, replays-next}
-use Rattle.round_spec.proofs.Rightly.{rightly-opening, rightly-happens}
+use Rattle.round_spec.proofs.ByRule.{by_rule-opening, by_rule-happens}
 use Rattle.propagate.proofs.Choosing.{pick-over}
 use Rattle.rerun_workers.specs.Following.{FollowsPicks}
 use Rattle.rerun_workers.specs.Locking.{with_reuse, settled, given_up}
@@ -44,7 +44,7 @@ pub follows_opening :
 follows_opening setup past w is =
     subst (FollowsPicks setup past) (sym is)
     (record {
-      picked = λ sound. rightly-opening setup past;
+      picked = λ sound. by_rule-opening setup past;
       replays = λ h past_is repeats.
           subst (λ (p : Option History). IsReplaying h (opening setup p)) (sym past_is)
           (subst (λ (s : Setup). IsReplaying h (opening s (Some h))) repeats.same (replays-start h));
@@ -58,7 +58,7 @@ on setup past w v e under goes is =
     subst (FollowsPicks setup past) (sym is)
     (record {
       picked = λ sound.
-          rightly-happens w e (can-go setup past w under sound) under.in_order (under.follows.picked sound) goes;
+          by_rule-happens w e (can-go setup past w under sound) under.in_order (under.follows.picked sound) goes;
       replays = λ h past_is repeats.
           let replays = under.follows.replays h past_is repeats in
           replays-on h w e (subst IsSetup replays.reused.setup under.valid) repeats.coherent replays goes;

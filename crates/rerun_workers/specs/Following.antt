@@ -6,8 +6,8 @@ use Rattle.round_spec.specs.Rounds.{RoundState}
 use Rattle.round_spec.specs.Picking.{IsPickedSoFar}
 use Rattle.round_spec.specs.Replaying.{Repeats, IsReplaying}
 
--- If its history is sound, all that a round has done so far was picked rightly. Without an edit it replays its history,
--- if that is coherent.
+-- If its history is sound, all that a round has done so far was chosen by the rule. Without an edit it replays its
+-- history, if that is coherent.
 pub record FollowsPicks (setup : Setup) (past : Option History) (w : RoundState) : Type 0 where
   pub picked : IsSound past setup → IsPickedSoFar w
   pub replays : (h : History) → past ≡ Some h → Repeats h setup → IsReplaying h w

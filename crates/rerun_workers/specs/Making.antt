@@ -14,8 +14,8 @@ use Rattle.rerun_workers.specs.Following.{FollowsPicks}
 
 -- A round of a setup, based on a history if there is one, that so many workers made, and how many of its steps each of
 -- them made. The round is where its schedule leads, one worker makes the round of the choice, and if the history is
--- sound, each entry was picked rightly. If it works as the history did, it executes no more than its setup reaches. It
--- has an end, and without an edit it only reuses the history.
+-- sound, each entry was chosen by the rule. If it works as the history did, it executes no more than its setup reaches.
+-- It has an end, and without an edit it only reuses the history.
 pub record IsRoundBy (workers : ℕ) (s : Setup) (before : Option History) (w : RoundState) (worker_steps : List ℕ) : Type 0
   where
     pub setup : w.setup ≡ s

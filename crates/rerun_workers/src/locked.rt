@@ -60,8 +60,8 @@ pub enum CommitOutcome {
 /// The round that workers make together, under their lock. The total of the ledger's book is the length of the
 /// schedule. If the round is watched, so is a word that is read without the lock. The issuer issues a ticket for each
 /// step that is taken. The round is of the setup and of the history that its type names, and only what was picked was
-/// started in it. If the history is sound, all of it was picked rightly. Without an edit since a coherent history, the
-/// round has only replayed that history so far.
+/// started in it. If the history is sound, all of it was chosen by the rule. Without an edit since a coherent history,
+/// the round has only replayed that history so far.
 #[derive(Drop)]
 pub struct Locked<J: Naming> {
     pub(super) round: Round,

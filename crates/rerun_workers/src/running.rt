@@ -136,7 +136,7 @@ fn run_together<J: Naming + Send + Sync, R: Threads + Wait + Sync, G: Gate + Syn
 
 /// A round that `workers` workers make, and how many of its steps each of them made, in their order. It has an end. One
 /// worker makes it without a lock, doesn't enter the gate, and discards nothing. If the history is sound, each entry
-/// was picked rightly: its thread was due, or no thread was. With any number of workers, a round that works as its
+/// was chosen by the rule: its thread was due, or no thread was. With any number of workers, a round that works as its
 /// history did executes no more than its setup reaches. Without an edit it only reuses the history, and nothing is
 /// discarded. The returned effort has the turns of the executed steps if there is one worker, and 0 turns without an
 /// edit. Without an edit since a coherent history, honest or not, no page was compared.

@@ -124,7 +124,7 @@ in_time-of setup past schedule i e p picked =
     picked-parts (is_ready (hart_of m e.thread).status) (eqb (hart_of m e.thread).number number)
     (is_due past m e.thread || not (any_thread m (is_ready_and_due past m)))
     (is_some (found past e.thread number) || not (any_thread m (λ u. is_ready_and_due past m u && fits_next past m u)))
-    picked.rightly in
+    picked.by_rule in
     record {
       earlier = picked.earlier;
       number = eqb-true (hart_of m e.thread).number number parts.0;
@@ -135,4 +135,4 @@ pub are_in_time :
     (setup : Setup) (past : Option History) (schedule : List Entry) (points : List ℕ)
     → ArePicked setup past schedule points → AreInTime setup past schedule points
 are_in_time setup past schedule points picked =
-    record { each = λ i e there. in_time-of setup past schedule i e (get_or points i 0) (picked.rightly i e there) }
+    record { each = λ i e there. in_time-of setup past schedule i e (get_or points i 0) (picked.by_rule i e there) }

@@ -24,7 +24,7 @@ pub mod Picks
 pub mod Lone
 pub mod Ending
 pub mod Picked
-pub mod Rightly
+pub mod ByRule
 pub mod Following
 pub mod Coherent
 pub mod Unedited

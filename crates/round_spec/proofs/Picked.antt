@@ -180,7 +180,7 @@ guided-picked setup past i e valid below is =
     record {
       earlier = omega arith;
       at_once = λ _. refl;
-      rightly =
+      by_rule =
           subst (λ (m : Machine). is_picked_on past m e.thread (hart_of m e.thread).number ≡ true)
           (sym (after-marked setup past (one_worker setup past) i))
           (chosen-picked past (scratch setup (take i (one_worker setup past))) none_in_flight e.thread
@@ -216,7 +216,7 @@ lone-all_picked setup past valid sound =
     subst (ArePicked setup past (lone_round setup past).schedule) (sym (lone-points setup past valid sound))
     (record {
       each = length-range_with_len 0 (length (lone_round setup past).schedule);
-      rightly = λ i e there. at i e (slice_get_within (lone_round setup past).schedule i e there) there;
+      by_rule = λ i e there. at i e (slice_get_within (lone_round setup past).schedule i e there) there;
     })
   where
     at :

@@ -4,7 +4,7 @@ use Rattle.machine_spec.specs.Setup.{Setup}
 use Rattle.history_spec.specs.History.{History}
 use Rattle.report_spec.specs.declared.Entry.{Entry}
 use Rattle.round_spec.specs.Rounds.{RoundState, taken_when}
-use Rattle.round_spec.specs.Picking.{IsPicked, ArePicked, IsInFlightRightly}
+use Rattle.round_spec.specs.Picking.{IsPicked, ArePicked, IsInFlightByRule}
 use Rattle.round_spec.proofs.Samples.{reuses}
 
 -- No entry is picked after it was made.
@@ -29,5 +29,5 @@ too_few_points setup past e picked = not-both 0 refl picked.each
 
 -- A thread that is in flight was taken by now.
 pub taken-later :
-    (w : RoundState) (t : ℕ) → taken_when w t ≡ 5 → length w.schedule ≡ 4 → IsInFlightRightly w t → ⊥
-taken-later w t when long rightly = let earlier = rightly.earlier in absurd (omega arith)
+    (w : RoundState) (t : ℕ) → taken_when w t ≡ 5 → length w.schedule ≡ 4 → IsInFlightByRule w t → ⊥
+taken-later w t when long by_rule = let earlier = by_rule.earlier in absurd (omega arith)

@@ -168,7 +168,7 @@ pub ended-made :
     → ((h : History) → w.past ≡ Some h → IsUnedited h w.setup → IsReplaying h w)
     → (IsSound w.past w.setup → IsPickedSoFar w)
     → IsMadeBy workers w.setup w.past w.schedule worker_steps
-ended-made workers w worker_steps many is ended each steps replays rightly =
+ended-made workers w worker_steps many is ended each steps replays by_rule =
     record {
       stands = is.schedule;
       ended = ap (λ (m : Machine). is_some m.ending) is.machine ∙ ended;
@@ -176,7 +176,7 @@ ended-made workers w worker_steps many is ended each steps replays rightly =
       steps = steps;
       alone = λ one. absurd (omega arith);
       unedited = λ h by unedited. (replays-end h w unedited.honest (replays h by unedited) ended).schedule;
-      picked = λ sound. (w.picked, (rightly sound).entries);
+      picked = λ sound. (w.picked, (by_rule sound).entries);
     }
 
 -- two rounds with the same parts

@@ -37,7 +37,7 @@ pub record IsPicked (setup : Setup) (past : Option History) (schedule : List Ent
     (length_then : ℕ) : Type 0 where
   pub earlier : length_then ≤ i
   pub at_once : e.reused ≡ true → length_then ≡ i
-  pub rightly :
+  pub by_rule :
       is_picked_on past (machine_after setup schedule length_then) e.thread
       (hart_of (machine_after setup schedule i) e.thread).number
       ≡ true
@@ -45,16 +45,16 @@ pub record IsPicked (setup : Setup) (past : Option History) (schedule : List Ent
 -- Each entry of a schedule was chosen by the rule when the schedule was as long as `picked` says for the entry.
 pub record ArePicked (setup : Setup) (past : Option History) (schedule : List Entry) (picked : List ℕ) : Type 0 where
   pub each : length picked ≡ length schedule
-  pub rightly :
+  pub by_rule :
       (i : ℕ) (e : Entry) → slice_get schedule i ≡ Some e → IsPicked setup past schedule i e (slice_index_or picked i 0)
 
 -- A thread in flight was chosen by the rule when its step was taken, at a schedule no longer than now.
-pub record IsInFlightRightly (w : RoundState) (t : ℕ) : Type 0 where
+pub record IsInFlightByRule (w : RoundState) (t : ℕ) : Type 0 where
   pub earlier : taken_when w t ≤ length w.schedule
-  pub rightly :
+  pub by_rule :
       is_picked_on w.past (machine_after w.setup w.schedule (taken_when w t)) t (hart_of w.machine t).number ≡ true
 
 -- All that a round has done so far was chosen by the rule: its entries, and the steps in flight.
 pub record IsPickedSoFar (w : RoundState) : Type 0 where
   pub entries : ArePicked w.setup w.past w.schedule w.picked
-  pub held : (t : ℕ) → is_in_flight w t ≡ true → IsInFlightRightly w t
+  pub held : (t : ℕ) → is_in_flight w t ≡ true → IsInFlightByRule w t

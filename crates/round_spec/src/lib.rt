@@ -342,7 +342,7 @@ pub fn one_worker_never_waits()
 
 /// If the round of one worker is based on a sound history, or on none, each entry was chosen by the rule when the
 /// schedule was as long as the entry's place.
-pub fn one_worker_picks_rightly()
+pub fn one_worker_picks_by_rule()
     ensures entries { (setup : Setup) (past : Option History)
         → CanGoBy past setup
         → ArePicked setup past (lone_round setup past).schedule (lone_round setup past).picked }
@@ -355,7 +355,7 @@ pub fn one_worker_picks_rightly()
 /// If a round is based on a sound history, or on none, and starts only steps that are picked, all that it does is
 /// chosen by the rule, whatever else happens in between: its entries, each when the schedule was as long as is kept
 /// with it, and the steps in flight. This holds for any number of workers.
-pub fn workers_pick_rightly()
+pub fn workers_pick_by_rule()
     ensures start { (setup : Setup) (past : Option History)
         → CanGoBy past setup
         → IsPickedSoFar (opening setup past) }

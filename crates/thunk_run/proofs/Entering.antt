@@ -16,7 +16,7 @@ use Rattle.page_store.specs.Entering.{Enters, RunsFrom}
 use Rattle.page_store.proofs.Slots.{slot_of-page}
 use Rattle.rv_step.specs.Step.{Makes, Follow}
 use Rattle.rv_step.proofs.Pages.{permission_at-page}
-use Rattle.thunk_run.specs.TurnsOutcome.{TurnsOutcome, left_by, left_after, counted}
+use Rattle.thunk_run.specs.TurnsOutcome.{TurnsOutcome, outcome_by, outcome_after, counted}
 use Rattle.thunk_run.proofs.Leaving.{counted-twice, turns-next}
 
 -- a turn at a page that may be executed begins with its fetch
@@ -53,7 +53,7 @@ turns-take map memory r n aligned permitted =
 taken-before :
     (w : Workspace) (address : ℕ) (t : Thunk)
     → ((addresses : List ℕ) × t.taken ≡ address ∷ addresses)
-    → left_by (after_taking w (address ∷ [])) t ≡ left_by w t
+    → outcome_by (after_taking w (address ∷ [])) t ≡ outcome_by w t
 taken-before w address t (addresses, is) =
     let marks : taken_at w.map (set w.taken (slot_of w.map address) true) t.taken ≡ taken_at w.map w.taken t.taken =
     rw is
@@ -66,13 +66,13 @@ taken-before w address t (addresses, is) =
     }) marks
 
 -- turns at a page that was entered do what they do if it wasn't
-pub entered-left :
+pub entered-outcome :
     (w after : Workspace) (r : Registers) (pc slot n : ℕ) → pc ≡ r.pc → Enters w pc slot after → pc % 4 ≡ 0 → 1 ≤ n
-    → left_after n after r ≡ left_after n w r
-entered-left w after r pc slot zero here enters aligned some = absurd (omega arith)
-entered-left w after r pc slot (suc n) here enters aligned some =
+    → outcome_after n after r ≡ outcome_after n w r
+entered-outcome w after r pc slot zero here enters aligned some = absurd (omega arith)
+entered-outcome w after r pc slot (suc n) here enters aligned some =
     let permitted : allows execute_right (permission_at w.map r.pc) ≡ true = rw (← here) enters.permitted in
-    let P : Workspace → Type 0 = λ v. left_after (suc n) v r ≡ left_after (suc n) w r in
+    let P : Workspace → Type 0 = λ v. outcome_after (suc n) v r ≡ outcome_after (suc n) w r in
     subst P (sym (enters.taken ∙ ap (λ (address : ℕ). after_taking w (address ∷ [])) here))
     (taken-before w r.pc (turns w.map (suc n) w.memory r) (turns-take w.map w.memory r n (omega arith) permitted))
 
@@ -94,15 +94,15 @@ entered-runs w after pc slot number bytes enters here shown =
     }
 
 -- the result of turns that follow is that of the turns of the model
-pub follow-left :
+pub follow-outcome :
     (n fuel count k : ℕ) (w after : Workspace) (r registers : Registers)
     → Follow n w r after registers → count + n ≤ fuel → k ≡ count + n
-    → counted k (left_after (fuel - k) after registers) ≡ counted count (left_after (fuel - count) w r)
-follow-left zero fuel count k w after r registers (same, still) few is =
+    → counted k (outcome_after (fuel - k) after registers) ≡ counted count (outcome_after (fuel - count) w r)
+follow-outcome zero fuel count k w after r registers (same, still) few is =
     let at : k ≡ count = omega arith in
     rw (at, same, still) refl
-follow-left (suc n) fuel count k w after r registers (middle, between, made, rest) few is =
-    follow-left n fuel (count + 1) k middle after between registers rest (omega arith) (omega arith)
+follow-outcome (suc n) fuel count k w after r registers (middle, between, made, rest) few is =
+    follow-outcome n fuel (count + 1) k middle after between registers rest (omega arith) (omega arith)
     ∙ turns-next fuel count w middle r between outcome.Next (omega arith) made refl
 
 -- and they keep the view
@@ -119,13 +119,13 @@ pub turn-view :
 turn-view w after o registers made = rw made.workspace_is refl
 
 -- the result of turns and of the rest, after others whose rest they are
-pub left-more :
+pub outcome-more :
     (fuel count more : ℕ) (w after : Workspace) (r registers : Registers) (whole : TurnsOutcome)
-    → counted more (left_after (fuel - count - more) after registers) ≡ left_after (fuel - count) w r
-    → counted count (left_after (fuel - count) w r) ≡ whole
-    → counted (count + more) (left_after (fuel - (count + more)) after registers) ≡ whole
-left-more fuel count more w after r registers whole then first =
+    → counted more (outcome_after (fuel - count - more) after registers) ≡ outcome_after (fuel - count) w r
+    → counted count (outcome_after (fuel - count) w r) ≡ whole
+    → counted (count + more) (outcome_after (fuel - (count + more)) after registers) ≡ whole
+outcome-more fuel count more w after r registers whole then first =
     let rest : fuel - (count + more) ≡ fuel - count - more = omega arith in
     rw rest
-    (sym (counted-twice count more (left_after (fuel - count - more) after registers))
+    (sym (counted-twice count more (outcome_after (fuel - count - more) after registers))
     ∙ ap (counted count) then ∙ first)

@@ -12,7 +12,7 @@ use Rattle.thunk_spec.specs.declared.ends.ThunkEnd.TheVariants as thunk_end
 use Rattle.thunk_spec.specs.Turn.{Turn, turn}
 use Rattle.thunk_spec.specs.Thunk.{Thunk, turns, followed, after_turn, last_turn}
 use Rattle.rv_step.specs.Step.{Makes}
-use Rattle.thunk_run.specs.TurnsOutcome.{TurnsOutcome, left_by, left_after, counted}
+use Rattle.thunk_run.specs.TurnsOutcome.{TurnsOutcome, outcome_by, outcome_after, counted}
 
 pub with_stores-append :
     (map : List Mapped) (memory : Memory) (xs ys : List StoredByte)
@@ -33,10 +33,10 @@ taken_at-append map taken [] ys = refl
 taken_at-append map taken (x ∷ xs) ys = taken_at-append map (slice_set taken (slot_of map x) true) xs ys
 
 -- the result of a turn, and then of the rest of its thunk
-pub left_by-after_turn :
+pub outcome_by-after_turn :
     (w : Workspace) (t : Turn) (rest : Thunk)
-    → left_by w (after_turn t rest) ≡ counted 1 (left_by (after_storing (after_taking w t.taken) t.stores) rest)
-left_by-after_turn w t rest =
+    → outcome_by w (after_turn t rest) ≡ counted 1 (outcome_by (after_storing (after_taking w t.taken) t.stores) rest)
+outcome_by-after_turn w t rest =
     rw (
       with_stores-append w.map w.memory t.stores rest.stores,
       marked-append w.map w.stored t.stores
@@ -79,21 +79,21 @@ counted-twice a b l = ap (λ (n : ℕ). record l { count = n }) (sym (add_assoc 
 pub turns-next :
     (fuel count : ℕ) (w after : Workspace) (r registers : Registers) (o : Outcome)
     → count < fuel → Makes (turn w.map w.memory r) w o registers after → o ≡ outcome.Next
-    → counted (count + 1) (left_after (fuel - (count + 1)) after registers)
-    ≡ counted count (left_after (fuel - count) w r)
+    → counted (count + 1) (outcome_after (fuel - (count + 1)) after registers)
+    ≡ counted count (outcome_after (fuel - count) w r)
 turns-next fuel count w after r registers o lt made next =
     let left : fuel - count ≡ suc (fuel - (count + 1)) = omega arith in
     rw (left, made.workspace_is, made.regs_are)
     (sym
-    (ap (λ (t : Thunk). counted count (left_by w t))
+    (ap (λ (t : Thunk). counted count (outcome_by w t))
     (followed-next (turn w.map w.memory r).outcome w.map w.memory (turn w.map w.memory r)
     (turns w.map (fuel - (count + 1))) (sym made.outcome_is ∙ next))
     ∙ ap (counted count)
-    (left_by-after_turn w (turn w.map w.memory r)
+    (outcome_by-after_turn w (turn w.map w.memory r)
     (turns w.map (fuel - (count + 1)) (with_stores w.map w.memory (turn w.map w.memory r).stores)
     (turn w.map w.memory r).regs))
     ∙ counted-twice count 1
-    (left_after (fuel - (count + 1))
+    (outcome_after (fuel - (count + 1))
     (after_storing (after_taking w (turn w.map w.memory r).taken) (turn w.map w.memory r).stores)
     (turn w.map w.memory r).regs)))
 
@@ -102,17 +102,17 @@ last-turn :
     → count < fuel → Makes (turn w.map w.memory r) w o registers after
     → followed (turn w.map w.memory r).outcome w.map w.memory (turn w.map w.memory r) (turns w.map (fuel - (count + 1)))
     ≡ last_turn end (turn w.map w.memory r)
-    → counted count (left_after (fuel - count) w r)
+    → counted count (outcome_after (fuel - count) w r)
     ≡ record { regs = registers; end = end; count = count + 1; workspace = after }
 last-turn fuel count w after r registers o end lt made ended =
     let left : fuel - count ≡ suc (fuel - (count + 1)) = omega arith in
-    rw (left, made.workspace_is, made.regs_are) (ap (λ (t : Thunk). counted count (left_by w t)) ended)
+    rw (left, made.workspace_is, made.regs_are) (ap (λ (t : Thunk). counted count (outcome_by w t)) ended)
 
 -- the last turn called
 pub turns-call :
     (fuel count : ℕ) (w after : Workspace) (r registers : Registers) (o : Outcome)
     → count < fuel → Makes (turn w.map w.memory r) w o registers after → o ≡ outcome.Call
-    → counted count (left_after (fuel - count) w r)
+    → counted count (outcome_after (fuel - count) w r)
     ≡ record { regs = registers; end = thunk_end.Call; count = count + 1; workspace = after }
 turns-call fuel count w after r registers o lt made call =
     last-turn fuel count w after r registers o thunk_end.Call lt made
@@ -123,7 +123,7 @@ turns-call fuel count w after r registers o lt made call =
 pub turns-trap :
     (fuel count : ℕ) (w after : Workspace) (r registers : Registers) (o : Outcome) (cause : Cause)
     → count < fuel → Makes (turn w.map w.memory r) w o registers after → o ≡ outcome.Trap cause
-    → counted count (left_after (fuel - count) w r)
+    → counted count (outcome_after (fuel - count) w r)
     ≡ record { regs = registers; end = thunk_end.Trap cause; count = count + 1; workspace = after }
 turns-trap fuel count w after r registers o cause lt made trap =
     last-turn fuel count w after r registers o (thunk_end.Trap cause) lt made

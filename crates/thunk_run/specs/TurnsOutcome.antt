@@ -14,13 +14,13 @@ pub record TurnsOutcome : Type 0 where
   pub workspace : Workspace
 
 -- The result of a thunk's turns on a memory that a thread works on.
-abbrev pub left_by : Workspace → Thunk → TurnsOutcome
-left_by w t =
+abbrev pub outcome_by : Workspace → Thunk → TurnsOutcome
+outcome_by w t =
     record { regs = t.regs; end = t.end; count = t.count; workspace = after_storing (after_taking w t.taken) t.stores }
 
 -- The result of at most so many turns, from a memory and registers.
-abbrev pub left_after : ℕ → Workspace → Registers → TurnsOutcome
-left_after fuel w r = left_by w (turns w.map fuel w.memory r)
+abbrev pub outcome_after : ℕ → Workspace → Registers → TurnsOutcome
+outcome_after fuel w r = outcome_by w (turns w.map fuel w.memory r)
 
 -- The same, with so many earlier turns counted.
 abbrev pub counted : ℕ → TurnsOutcome → TurnsOutcome

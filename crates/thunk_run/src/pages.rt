@@ -3,7 +3,7 @@
 ghost use Rattle.std.specs.Prelude.{◌≡◌, ℕ, true, if◌then◌else◌, slice_set, ◌+◌, ◌-◌, ◌/◌, ◌%◌, ◌<◌, ◌≤◌, length, IfOk, IfSome, slice_index_or, Some, None};
 ghost use Rattle.memory_spec.specs.Pages.{page_of};
 ghost use Rattle.page_store.specs.Entering.{RunsFrom};
-ghost use Rattle.thunk_run.specs.TurnsOutcome.{left_after, counted};
+ghost use Rattle.thunk_run.specs.TurnsOutcome.{outcome_after, counted};
 ghost use Rattle.thunk_run.specs.Seeing.{AreSeen};
 
 use page_store::Mem;
@@ -82,9 +82,9 @@ fn enter_page<'a, M: Mem>(
     ensures runs { IfSome result
         (λ page. RunsFrom (M.workspace mem.new) page.now.number page.now.bytes) }
     ensures seen { AreSeen code.now (M.workspace mem.new).view seen.new }
-    ensures left { (n : ℕ) → 1 ≤ n
-        → left_after n (M.workspace mem.new) regs.now
-        ≡ left_after n (M.workspace mem.old) regs.now }
+    ensures outcome { (n : ℕ) → 1 ≤ n
+        → outcome_after n (M.workspace mem.new) regs.now
+        ≡ outcome_after n (M.workspace mem.old) regs.now }
 {
     let pc = regs.pc();
     if pc % 4 != 0 {
@@ -119,9 +119,9 @@ pub(super) fn run_pages<M: Mem>(
     ensures cost { IfOk result (λ count. turns.new ≡ turns.old + count) }
     ensures never_lower { turns.old ≤ turns.new }
     ensures seen { IfOk result (λ count. AreSeen code.now (M.workspace mem.new).view seen.new) }
-    ensures left { IfOk result (λ count. (fuel : ℕ) → room ≤ fuel
-        → counted count (left_after (fuel - count) (M.workspace mem.new) regs.new)
-        ≡ left_after fuel (M.workspace mem.old) regs.old) }
+    ensures outcome { IfOk result (λ count. (fuel : ℕ) → room ≤ fuel
+        → counted count (outcome_after (fuel - count) (M.workspace mem.new) regs.new)
+        ≡ outcome_after fuel (M.workspace mem.old) regs.old) }
 {
     let mut count = 0;
     while room - count >= PAGE_TURNS {

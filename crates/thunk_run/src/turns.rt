@@ -1,7 +1,7 @@
 //! The turns of a thunk.
 
 ghost use Rattle.std.specs.Prelude.{◌≡◌, ◌+◌, ◌≤◌, IfOk};
-ghost use Rattle.thunk_run.specs.TurnsOutcome.{TurnsOutcome, left_after, with_put_taken};
+ghost use Rattle.thunk_run.specs.TurnsOutcome.{TurnsOutcome, outcome_after, with_put_taken};
 
 use super::pages::{PAGE_TURNS, Seen, run_pages};
 use super::put::{put_range, take_range};
@@ -42,14 +42,14 @@ pub(super) fn make_turns<M: Mem, W: Watch>(
 ) -> Result<Turned, AllocError>
     ensures cost { IfOk result (λ turned. turns.new ≡ turns.old + turned.count) }
     ensures never_lower { turns.old ≤ turns.new }
-    ensures left { IfOk result (λ turned.
+    ensures outcome { IfOk result (λ turned.
         record {
           regs = regs.new;
           end = turned.end;
           count = turned.count;
           workspace = M.workspace mem.new;
         }
-        ≡ left_after frame.now.fuel (M.workspace mem.old) regs.old) }
+        ≡ outcome_after frame.now.fuel (M.workspace mem.old) regs.old) }
 {
     let fuel = frame.fuel();
     let code = frame.code();
@@ -107,14 +107,14 @@ pub(super) fn make_thunk<M: Mem, W: Watch>(
     requires { (M.workspace mem.old).map ≡ frame.now.map }
     ensures cost { IfOk result (λ turned. turns.new ≡ turns.old + turned.count) }
     ensures never_lower { turns.old ≤ turns.new }
-    ensures left { IfOk result (λ turned.
+    ensures outcome { IfOk result (λ turned.
         record {
           regs = regs.new;
           end = turned.end;
           count = turned.count;
           workspace = M.workspace mem.new;
         }
-        ≡ with_put_taken (left_after frame.now.fuel (M.workspace mem.old) regs.old)) }
+        ≡ with_put_taken (outcome_after frame.now.fuel (M.workspace mem.old) regs.old)) }
 {
     let turned = make_turns(alloc, frame, regs, mem, turns, watch)?;
     let range = put_range(frame.map(), turned.end, regs);

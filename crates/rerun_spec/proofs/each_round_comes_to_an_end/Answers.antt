@@ -2,9 +2,9 @@
 use Rattle.std.proofs.Common.{◌≡◌, slice_index_or}
 use Rattle.history_spec.specs.History.{schedule_of}
 use Rattle.round_spec.specs.Keeping.{IsCounted}
-use Rattle.rerun_spec.specs.Rounds.{made, left_by, schedule_in, rounds_after}
+use Rattle.rerun_spec.specs.Rounds.{made, resulting_history, schedule_in, rounds_after}
 use Rattle.rerun_spec.specs.Making.{ComesToAnEnd}
-use Rattle.rerun_spec.proofs.Ending.{all-valid, valid-holds, made-holds, valid-made-holds, round-stops, round-stands, round-steps, round-counts, left-own, left-found, same-program, same-past, later-past}
+use Rattle.rerun_spec.proofs.Ending.{all-valid, valid-holds, made-holds, valid-made-holds, round-stops, round-stands, round-steps, round-counts, resulting-own, resulting-found, same-program, same-past, later-past}
 use Rattle.rerun_spec.proofs.each_round_comes_to_an_end.Goals as goal
 
 pub returns-clause-runs : goal.returns-clause-runs
@@ -19,10 +19,10 @@ pub returns-clause-records : goal.returns-clause-records
 returns-clause-records c = valid-holds (λ r. IsCounted (made r)) round-counts
 
 pub returns-clause-schedule : goal.returns-clause-schedule
-returns-clause-schedule c = valid-made-holds (λ r. schedule_of (left_by r) ≡ schedule_in r) left-found
+returns-clause-schedule c = valid-made-holds (λ r. schedule_of (resulting_history r) ≡ schedule_in r) resulting-found
 
 pub returns-clause-setup : goal.returns-clause-setup
-returns-clause-setup c = λ b inputs found k d below. left-own (slice_index_or (rounds_after b inputs found) k d)
+returns-clause-setup c = λ b inputs found k d below. resulting-own (slice_index_or (rounds_after b inputs found) k d)
 
 pub returns-clause-program : goal.returns-clause-program
 returns-clause-program c = same-program

@@ -1,5 +1,5 @@
 -- Answers to the goals that the check of `repeated_round_executes_nothing` leaves open.
-use Rattle.rerun_spec.specs.Rounds.{left_by}
+use Rattle.rerun_spec.specs.Rounds.{resulting_history}
 use Rattle.rerun_spec.proofs.Repeating.{repeated-after, again-reuses, again-instructions, again-never_runs, again-executed, after-schedule, after-machine}
 use Rattle.rerun_spec.proofs.repeated_round_executes_nothing.Goals as goal
 
@@ -9,8 +9,8 @@ returns-clause-repeats c = λ b inputs found workers before after are repeated.
     record {
       repeats =
           record {
-            reuses = again-reuses workers (left_by before) after is.again is.made;
-            instructions = again-instructions workers (left_by before) after is.again is.made;
+            reuses = again-reuses workers (resulting_history before) after is.again is.made;
+            instructions = again-instructions workers (resulting_history before) after is.again is.made;
           };
       schedule = after-schedule workers before after is;
       machine = after-machine workers before after is;
@@ -20,6 +20,6 @@ pub returns-clause-alone : goal.returns-clause-alone
 returns-clause-alone c = λ b inputs found workers before after are repeated.
     let is = repeated-after b inputs found workers before after are.begin are.short are.made repeated in
     record {
-      never_runs = λ n t. again-never_runs (left_by before) after n t is.again;
-      executed = again-executed (left_by before) after is.again;
+      never_runs = λ n t. again-never_runs (resulting_history before) after n t is.again;
+      executed = again-executed (resulting_history before) after is.again;
     }

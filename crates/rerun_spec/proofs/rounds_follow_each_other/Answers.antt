@@ -24,8 +24,8 @@ returns-clause-start c = first-setup
 pub returns-clause-past : goal.returns-clause-past
 returns-clause-past c = first-past
 
-pub returns-clause-left : goal.returns-clause-left
-returns-clause-left c = λ b inputs found place before after one next.
+pub returns-clause-resulting : goal.returns-clause-resulting
+returns-clause-resulting c = λ b inputs found place before after one next.
     (next-after b inputs found place before after one next).left
 
 pub returns-clause-none : goal.returns-clause-none

@@ -9,7 +9,7 @@ use Rattle.ith_top.proofs.program.carry_out.Goals as goal
 pub write_memo-requires : goal.write_memo-requires
 write_memo-requires g c =
     let played = c.in_ok-exits.ensures.played in
-    subst IsEncodable (sym (c.deref.ensures ∙ played.is_left))
+    subst IsEncodable (sym (c.deref.ensures ∙ played.is_last))
     (last_encoded c.args.crew.now.workers (plan_said c.args.plan) played.found c.requires.playable c.requires.encoded
     played.made played.all)
 

@@ -12,8 +12,8 @@ use Rattle.ith_commands.specs.Playing.{beginning_said}
 use Rattle.ith_top.proofs.Making.{made_on, round_map}
 use Rattle.ith_top.proofs.report.make_round.Goals as goal
 
-pub left_by-requires : goal.left_by-requires
-left_by-requires g c =
+pub resulting_history-requires : goal.resulting_history-requires
+resulting_history-requires g c =
     let start : c.in_ok-start.start ≡ with_input c.args.beginning.setup c.args.input.items = search rules in
     round_map (beginning_said c.args.beginning) c.args.input.items c.in_ok-made.made.round
     (c.in_ok-made.ensures.setup ∙ start) c.in_ok-made.ensures.past c.requires.same
@@ -48,4 +48,4 @@ returns-clause-played g c =
       past = Some h;
       setup = c.args.beginning.setup;
       asked = c.args.beginning.asked;
-    }) c.in_ok-left.ensures)
+    }) c.in_ok-history.ensures)

@@ -121,7 +121,7 @@ returns-clause-played g c =
     let w = g.H.Host.world in
     going_played (beginning_said c.args.plan.beginning) c.args.crew.now.workers c.args.plan.inputs (w c.args.host.now)
     (w c.loop-place.host) (beginning_said c.loop-place.beginning) c.loop-place.inputs c.loop-place.exits
-    (arc_value c.in-Some.left) c.args.crew.now.work c.loop-place.crew.work
+    (arc_value c.in-Some.history) c.args.crew.now.work c.loop-place.crew.work
     (none_left c.loop-place.inputs c.loop-place.place c.len-place-end.result c.loop-place.invariant.left
     c.loop-place-test.false)
     (ap (option_map arc_value) c.in-Some.is)

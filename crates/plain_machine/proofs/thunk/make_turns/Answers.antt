@@ -10,8 +10,8 @@ loop-count-preserved c =
       few = omega arith;
       counter = omega (arith, c.step.ensures.count);
       map = ap (λ (w : Workspace). w.map) c.in_ok-step.ensures.ok.workspace_is ∙ c.loop-count.invariant.map;
-      left =
+      outcome =
           turns-next c.args.fuel c.loop-count.count c.loop-count.work c.step.new.mem c.loop-count.regs c.step.new.regs
           c.in_ok-step.field-0 (omega arith) c.in_ok-step.ensures.ok c.in-Next.is
-          ∙ c.loop-count.invariant.left;
+          ∙ c.loop-count.invariant.outcome;
     }

@@ -17,7 +17,7 @@ returns-clause-done c =
       stores = c.into_stores.result;
       put = c.in_ok-put.put;
     })
-    c.requires c.in_ok-work.ensures c.in_ok-ended.ensures.map c.in_ok-ended.ensures.left
+    c.requires c.in_ok-work.ensures c.in_ok-ended.ensures.map c.in_ok-ended.ensures.outcome
     (c.in_ok-put.ensures
     ∙ ap (λ (map : List Mapped). bytes_at map c.memory.result.now
     (put_addresses map c.in_ok-ended.ended.end c.make_turns.new.regs)) c.deref.ensures

@@ -18,5 +18,5 @@ returns-clause-kept g c =
     c.in_ok-reads.reads c.in_ok-delta.delta (record { count = c.args.job.now.sized; pages = c.in_ok-space.ensures.whole })
     c.deref-2.ensures
     (c.shared_map.ensures ∙ ap (λ (f : Frame). f.map) c.deref.ensures) c.in_ok-space.ensures.fresh
-    c.in_ok-turned.ensures.left c.in_ok-reads.ensures
+    c.in_ok-turned.ensures.outcome c.in_ok-reads.ensures
     c.in_ok-delta.ensures

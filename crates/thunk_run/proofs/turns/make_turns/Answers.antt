@@ -1,8 +1,8 @@
 -- Answers to the goals that the check of `make_turns` leaves open.
 use Rattle.std.proofs.Common.{◌≡◌, ℕ, ◌+◌, ◌-◌, ◌<◌, ◌≤◌, ◌⊎◌, Bool, true, false, ◌∙◌, sym, inl, inr, arith}
 use Rattle.thunk_run.proofs.Leaving.{turns-next, turns-call, turns-trap}
-use Rattle.thunk_run.proofs.Entering.{turn-view, left-more}
-use Rattle.thunk_run.specs.TurnsOutcome.{left_after}
+use Rattle.thunk_run.proofs.Entering.{turn-view, outcome-more}
+use Rattle.thunk_run.specs.TurnsOutcome.{outcome_after}
 use Rattle.thunk_run.proofs.turns.make_turns.Goals as goal
 use Rattle.thunk_run.proofs.turns.make_turns.Goals.{then-count-ge-LONG_TURNS+then-not-reported, else-count-ge-LONG_TURNS}
 use Rattle.thunk_run.proofs.turns.make_turns.Goals.{else-count-ge-LONG_TURNS-via-then-count-ge-LONG_TURNS+else-not-reported}
@@ -50,16 +50,16 @@ loop-count-preserved g c =
       seen = λ slot page same at.
           rw (turn-view w after c.in_ok-step.field-0 c.step.new.regs c.in_ok-step.ensures.ok)
           (c.in_ok-count.ensures.seen slot page same at);
-      left =
+      outcome =
           turns-next fuel made w after c.run_pages.new.regs c.step.new.regs c.in_ok-step.field-0 few
           c.in_ok-step.ensures.ok c.in-Next.is
-          ∙ left-more fuel c.loop-count.count more (g.M.Mem.workspace c.loop-count.mem) w c.loop-count.regs
-          c.run_pages.new.regs (left_after fuel (g.M.Mem.workspace c.args.mem.now) c.args.regs.now)
-          (c.in_ok-count.ensures.left (fuel - c.loop-count.count) (omega arith)) c.loop-count.invariant.left;
+          ∙ outcome-more fuel c.loop-count.count more (g.M.Mem.workspace c.loop-count.mem) w c.loop-count.regs
+          c.run_pages.new.regs (outcome_after fuel (g.M.Mem.workspace c.args.mem.now) c.args.regs.now)
+          (c.in_ok-count.ensures.outcome (fuel - c.loop-count.count) (omega arith)) c.loop-count.invariant.outcome;
     }
 
-pub returns-in-Call-clause-left : goal.returns-in-Call-clause-left
-returns-in-Call-clause-left g c =
+pub returns-in-Call-clause-outcome : goal.returns-in-Call-clause-outcome
+returns-in-Call-clause-outcome g c =
     let fuel = c.fuel-fuel.result in
     let more = c.in_ok-count.field-0 in
     let made = c.loop-count.count + more in
@@ -69,12 +69,12 @@ returns-in-Call-clause-left g c =
     (sym
     (turns-call fuel made w (g.M.Mem.workspace c.step.new.mem) c.run_pages.new.regs c.step.new.regs c.in_ok-step.field-0
     few c.in_ok-step.ensures.ok c.in-Call.is)
-    ∙ left-more fuel c.loop-count.count more (g.M.Mem.workspace c.loop-count.mem) w c.loop-count.regs
-    c.run_pages.new.regs (left_after fuel (g.M.Mem.workspace c.args.mem.now) c.args.regs.now)
-    (c.in_ok-count.ensures.left (fuel - c.loop-count.count) (omega arith)) c.loop-count.invariant.left)
+    ∙ outcome-more fuel c.loop-count.count more (g.M.Mem.workspace c.loop-count.mem) w c.loop-count.regs
+    c.run_pages.new.regs (outcome_after fuel (g.M.Mem.workspace c.args.mem.now) c.args.regs.now)
+    (c.in_ok-count.ensures.outcome (fuel - c.loop-count.count) (omega arith)) c.loop-count.invariant.outcome)
 
-pub returns-in-Trap-clause-left : goal.returns-in-Trap-clause-left
-returns-in-Trap-clause-left g c =
+pub returns-in-Trap-clause-outcome : goal.returns-in-Trap-clause-outcome
+returns-in-Trap-clause-outcome g c =
     let fuel = c.fuel-fuel.result in
     let more = c.in_ok-count.field-0 in
     let made = c.loop-count.count + more in
@@ -84,6 +84,6 @@ returns-in-Trap-clause-left g c =
     (sym
     (turns-trap fuel made w (g.M.Mem.workspace c.step.new.mem) c.run_pages.new.regs c.step.new.regs c.in_ok-step.field-0
     c.in-Trap.cause few c.in_ok-step.ensures.ok c.in-Trap.is)
-    ∙ left-more fuel c.loop-count.count more (g.M.Mem.workspace c.loop-count.mem) w c.loop-count.regs
-    c.run_pages.new.regs (left_after fuel (g.M.Mem.workspace c.args.mem.now) c.args.regs.now)
-    (c.in_ok-count.ensures.left (fuel - c.loop-count.count) (omega arith)) c.loop-count.invariant.left)
+    ∙ outcome-more fuel c.loop-count.count more (g.M.Mem.workspace c.loop-count.mem) w c.loop-count.regs
+    c.run_pages.new.regs (outcome_after fuel (g.M.Mem.workspace c.args.mem.now) c.args.regs.now)
+    (c.in_ok-count.ensures.outcome (fuel - c.loop-count.count) (omega arith)) c.loop-count.invariant.outcome)

@@ -4,8 +4,8 @@ use Rattle.priv_space.specs.Slots.{untouched}
 use Rattle.priv_space.proofs.Held.{put-slot}
 use Rattle.priv_space.proofs.slots.Slots.give_delta.Goals as goal
 
-pub returns-clause-left : goal.returns-clause-left
-returns-clause-left c =
+pub returns-clause-emptied : goal.returns-clause-emptied
+returns-clause-emptied c =
     let slot = c.args.slot in
     let given : c.replace-given.new.dest ≡ untouched = c.replace-given.ensures.after ∙ c.new.ensures in
     let p = put-slot c.replace-given.new.dest c.self.view_is c.self.invariant c.requires

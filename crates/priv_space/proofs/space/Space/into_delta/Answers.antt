@@ -14,7 +14,7 @@ loop-slot-preserved c =
     let kept = c.loop-slot.invariant in
     let slot = c.in-Some.slot in
     let deltas = c.give_delta.new.deltas.items in
-    let left = c.give_delta.ensures.left in
+    let left = c.give_delta.ensures.emptied in
     record {
       count = ap length left ∙ length-set slots slot untouched ∙ kept.count;
       deltas = ap (λ s. deltas ++ deltas_left view s (slot + 1)) left

@@ -21,7 +21,7 @@ use Rattle.round_spec.specs.Marks.{record_for, fits_next}
 use Rattle.round_spec.specs.Rounds.{RoundState, opening, is_finished, is_in_flight, can_begin, can_take, can_reuse, taken, taken_when, reused_by, committed, given_back, happens}
 use Rattle.round_spec.specs.Choice.{choice_by, with_choice, pick_of}
 use Rattle.round_spec.specs.Keeping.{IsFromScratch, IsInOrder}
-use Rattle.round_spec.specs.Picking.{is_picked_on, machine_after, IsPicked, ArePicked, IsInFlightRightly, IsPickedSoFar}
+use Rattle.round_spec.specs.Picking.{is_picked_on, machine_after, IsPicked, ArePicked, IsInFlightByRule, IsPickedSoFar}
 use Rattle.round_spec.proofs.BySchedule.{in_flight-below}
 use Rattle.round_spec.proofs.Happening.{CanBegin, can_begin-parts, none_in_flight-none, still_in_flight}
 use Rattle.round_spec.specs.Replaying.{goes_on_by}
@@ -65,10 +65,10 @@ reuse-chosen w u goes = by (is_finished w) (choice_by w.past w.machine w.in_flig
     by false (Some t) is goes = is ∙ ap (λ (n : ℕ). Some n) (reuse t (fits_next w.past w.machine t) goes)
 
 -- so it is chosen by the rule on the machine as it is
-rightly-now :
+by_rule-now :
     (w : RoundState) (u : ℕ) → IsInOrder w → choice_by w.past w.machine w.in_flight ≡ Some u
     → is_picked_on w.past w.machine u (hart_of w.machine u).number ≡ true
-rightly-now w u kept chosen =
+by_rule-now w u kept chosen =
     chosen-picked w.past w.machine w.in_flight u (λ v raised. (kept.held v raised).unfit)
     (choice_by-chosen w.past w.machine w.in_flight u chosen)
 
@@ -104,11 +104,11 @@ picked-longer setup past schedule e i d n below is =
     record {
       earlier = earlier;
       at_once = is.at_once;
-      rightly =
+      by_rule =
           subst (λ (m : Machine). is_picked_on past m d.thread
           (hart_of (machine_after setup (schedule ++ e ∷ []) i) d.thread).number ≡ true) then
           (subst (λ (m : Machine). is_picked_on past (machine_after setup schedule n) d.thread
-          (hart_of m d.thread).number ≡ true) now is.rightly);
+          (hart_of m d.thread).number ≡ true) now is.by_rule);
     }
 
 entries-more :
@@ -120,7 +120,7 @@ entries-more setup past schedule picked e n are last =
       each =
           (let long = are.each in let es = length-append schedule (e ∷ []) in let ns = length-append picked (n ∷ []) in
           omega arith);
-      rightly = λ i d there. at i d there (cases_lt i (length schedule));
+      by_rule = λ i d there. at i d there (cases_lt i (length schedule));
     }
   where
     at :
@@ -136,7 +136,7 @@ entries-more setup past schedule picked e n are last =
         let point : get_or picked i 0 ≡ get_or (picked ++ n ∷ []) i 0 =
         sym (get_or_append_left picked (n ∷ []) 0 i (omega arith)) in
         subst (λ (k : ℕ). IsPicked setup past (schedule ++ e ∷ []) i d k) point
-        (picked-longer setup past schedule e i d (get_or picked i 0) below (are.rightly i d before))
+        (picked-longer setup past schedule e i d (get_or picked i 0) below (are.by_rule i d before))
     at i d there (inr late) =
         let within = slice_get_within (schedule ++ e ∷ []) i d there in
         let more = length-append schedule (e ∷ []) in
@@ -171,18 +171,18 @@ one-other t u other = let isnt : eqb u t ≡ false = ne_eqb u t (λ same. other 
 
 -- each event
 
-take-rightly :
+take-by_rule :
     (w : RoundState) (u : ℕ) (b : Bool)
     → IsFromScratch w → IsInOrder w → IsPickedSoFar w → choice_by w.past w.machine w.in_flight ≡ Some u
     → IsPickedSoFar (cond b (taken w u) w)
-take-rightly w u false s kept so_far chosen = so_far
-take-rightly w u true s kept so_far chosen =
+take-by_rule w u false s kept so_far chosen = so_far
+take-by_rule w u true s kept so_far chosen =
     record {
       entries = so_far.entries;
       held = λ t raised. at t raised (cases_eq t u);
     }
   where
-    at : (t : ℕ) → is_in_flight (taken w u) t ≡ true → (t ≡ u) ⊎ (t ≢ u) → IsInFlightRightly (taken w u) t
+    at : (t : ℕ) → is_in_flight (taken w u) t ≡ true → (t ≡ u) ⊎ (t ≢ u) → IsInFlightByRule (taken w u) t
     at t raised (inl same) =
         let below = in_flight-below (set w.in_flight u true) t raised in
         let flags = length-set w.in_flight u true in
@@ -194,42 +194,42 @@ take-rightly w u true s kept so_far chosen =
         ap (λ (k : ℕ). get_or (set w.taken_at u (length w.schedule)) k 0) same ∙ when_u in
         record {
           earlier = omega arith;
-          rightly =
+          by_rule =
               ap (λ (k : ℕ). is_picked_on w.past (machine_after w.setup w.schedule k) t (hart_of w.machine t).number)
               when
               ∙ ap (λ (m : Machine). is_picked_on w.past m t (hart_of w.machine t).number) (after-all w s)
               ∙ ap (λ (k : ℕ). is_picked_on w.past w.machine k (hart_of w.machine k).number) same
-              ∙ rightly-now w u kept chosen;
+              ∙ by_rule-now w u kept chosen;
         }
     at t raised (inr other) =
-        let before : IsInFlightRightly w t = so_far.held t (sym (get_or-set_other w.in_flight u t true false other) ∙ raised) in
+        let before : IsInFlightByRule w t = so_far.held t (sym (get_or-set_other w.in_flight u t true false other) ∙ raised) in
         let when : taken_when (taken w u) t ≡ taken_when w t =
         get_or-set_other w.taken_at u t (length w.schedule) 0 other in
         let earlier = before.earlier in
         record {
           earlier = omega arith;
-          rightly =
+          by_rule =
               ap (λ (k : ℕ). is_picked_on w.past (machine_after w.setup w.schedule k) t (hart_of w.machine t).number)
               when
-              ∙ before.rightly;
+              ∙ before.by_rule;
         }
 
-reused-rightly :
+reused-by_rule :
     (w : RoundState) (u : ℕ) (o : Option Record)
     → record_for w.past w.machine u ≡ o → CanBegin w u
     → IsFromScratch w → IsInOrder w → IsPickedSoFar w → choice_by w.past w.machine w.in_flight ≡ Some u
     → IsPickedSoFar (reused_by w u o)
-reused-rightly w u None there can s kept so_far chosen = so_far
-reused-rightly w u (Some r) there can s kept so_far chosen =
+reused-by_rule w u None there can s kept so_far chosen = so_far
+reused-by_rule w u (Some r) there can s kept so_far chosen =
     record {
       entries =
           entries-more w.setup w.past w.schedule w.picked e (length w.schedule) so_far.entries
           (record {
             earlier = omega arith;
             at_once = λ _. refl;
-            rightly =
+            by_rule =
                 ap (λ (m : Machine). is_picked_on w.past m u (hart_of m u).number) (after-now w e s)
-                ∙ rightly-now w u kept chosen;
+                ∙ by_rule-now w u kept chosen;
           });
       held = λ t raised. at t raised;
     }
@@ -243,63 +243,63 @@ reused-rightly w u (Some r) there can s kept so_far chosen =
     ready : is_ready (hart_of w.machine r.thread).status ≡ true
     ready = ap (λ (k : ℕ). is_ready (hart_of w.machine k).status) of.0 ∙ can.ready
 
-    at : (t : ℕ) → is_in_flight w t ≡ true → IsInFlightRightly (reused_by w u (Some r)) t
+    at : (t : ℕ) → is_in_flight w t ≡ true → IsInFlightByRule (reused_by w u (Some r)) t
     at t raised =
         let other : t ≢ u = λ same. let inside : is_in_flight w t ≡ false = ap (is_in_flight w) same ∙ can.inside in cc in
-        let before : IsInFlightRightly w t = so_far.held t raised in
+        let before : IsInFlightByRule w t = so_far.held t raised in
         let earlier = before.earlier in
         let more = length-append w.schedule (e ∷ []) in
         let none : one_for t r.thread ≡ 0 = ap (one_for t) of.0 ∙ one-other t u other in
         let number = apply-number w.machine r t ready in
         record {
           earlier = omega arith;
-          rightly =
+          by_rule =
               in_flight-longer w.past w.setup w.schedule e t (taken_when w t) (hart_of w.machine t).number _ earlier
-              (omega arith) before.rightly;
+              (omega arith) before.by_rule;
         }
 
-reuse-rightly :
+reuse-by_rule :
     (w : RoundState) (u : ℕ) (b : Bool)
     → can_reuse w u ≡ b
     → IsFromScratch w → IsInOrder w → IsPickedSoFar w → choice_by w.past w.machine w.in_flight ≡ Some u
     → IsPickedSoFar (cond b (reused_by w u (record_for w.past w.machine u)) w)
-reuse-rightly w u false is s kept so_far chosen = so_far
-reuse-rightly w u true is s kept so_far chosen =
-    reused-rightly w u (record_for w.past w.machine u) refl
+reuse-by_rule w u false is s kept so_far chosen = so_far
+reuse-by_rule w u true is s kept so_far chosen =
+    reused-by_rule w u (record_for w.past w.machine u) refl
     (can_begin-parts w u (and-left (can_begin w u) (fits_next w.past w.machine u) is)) s kept so_far chosen
 
-given_back-rightly : (w : RoundState) (u : ℕ) → IsPickedSoFar w → IsPickedSoFar (given_back w u)
-given_back-rightly w u so_far =
+given_back-by_rule : (w : RoundState) (u : ℕ) → IsPickedSoFar w → IsPickedSoFar (given_back w u)
+given_back-by_rule w u so_far =
     record {
       entries = so_far.entries;
       held = λ t raised. at t (still_in_flight w.in_flight u t raised).0 (so_far.held t (still_in_flight w.in_flight u t raised).1);
     }
   where
-    at : (t : ℕ) → t ≢ u → IsInFlightRightly w t → IsInFlightRightly (given_back w u) t
+    at : (t : ℕ) → t ≢ u → IsInFlightByRule w t → IsInFlightByRule (given_back w u) t
     at t other before =
         let when : taken_when (given_back w u) t ≡ taken_when w t = get_or-set_other w.taken_at u t 0 0 other in
         let earlier = before.earlier in
         record {
           earlier = omega arith;
-          rightly =
+          by_rule =
               ap (λ (k : ℕ). is_picked_on w.past (machine_after w.setup w.schedule k) t (hart_of w.machine t).number)
               when
-              ∙ before.rightly;
+              ∙ before.by_rule;
         }
 
-committed-rightly :
+committed-by_rule :
     (w : RoundState) (u : ℕ) → is_in_flight w u ≡ true
     → IsFromScratch w → IsInOrder w → IsPickedSoFar w → IsPickedSoFar (committed w u)
-committed-rightly w u in_flight s kept so_far =
+committed-by_rule w u in_flight s kept so_far =
     record {
       entries =
           entries-more w.setup w.past w.schedule w.picked e (taken_when w u) so_far.entries
           (record {
             earlier = own.earlier;
             at_once = λ reused. cc;
-            rightly =
+            by_rule =
                 in_flight-longer w.past w.setup w.schedule e u (taken_when w u) (hart_of w.machine u).number _ own.earlier
-                (ap (λ (m : Machine). (hart_of m u).number) (after-now w e s)) own.rightly;
+                (ap (λ (m : Machine). (hart_of m u).number) (after-now w e s)) own.by_rule;
           });
       held = λ t raised. at t (still_in_flight w.in_flight u t raised).0 (so_far.held t (still_in_flight w.in_flight u t raised).1);
     }
@@ -307,10 +307,10 @@ committed-rightly w u in_flight s kept so_far =
     e : Entry
     e = record { thread = u; reused = false }
 
-    own : IsInFlightRightly w u
+    own : IsInFlightByRule w u
     own = so_far.held u in_flight
 
-    at : (t : ℕ) → t ≢ u → IsInFlightRightly w t → IsInFlightRightly (committed w u) t
+    at : (t : ℕ) → t ≢ u → IsInFlightByRule w t → IsInFlightByRule (committed w u) t
     at t other before =
         let when : taken_when (committed w u) t ≡ taken_when w t = get_or-set_other w.taken_at u t 0 0 other in
         let earlier = before.earlier in
@@ -319,54 +319,54 @@ committed-rightly w u in_flight s kept so_far =
         let number = step-number w.machine u t (kept.held u in_flight).ready in
         record {
           earlier = omega arith;
-          rightly =
+          by_rule =
               ap (λ (k : ℕ). is_picked_on w.past (machine_after w.setup (w.schedule ++ e ∷ []) k) t
               (hart_of (committed w u).machine t).number) when
               ∙ in_flight-longer w.past w.setup w.schedule e t (taken_when w t) (hart_of w.machine t).number _ earlier
-              (omega arith) before.rightly;
+              (omega arith) before.by_rule;
         }
 
-commit-rightly :
+commit-by_rule :
     (w : RoundState) (u : ℕ) (in_flight over : Bool)
     → is_in_flight w u ≡ in_flight → IsFromScratch w → IsInOrder w → IsPickedSoFar w
     → IsPickedSoFar (cond in_flight (cond over (given_back w u) (committed w u)) w)
-commit-rightly w u false over in_flight s kept so_far = so_far
-commit-rightly w u true true in_flight s kept so_far = given_back-rightly w u so_far
-commit-rightly w u true false in_flight s kept so_far = committed-rightly w u in_flight s kept so_far
+commit-by_rule w u false over in_flight s kept so_far = so_far
+commit-by_rule w u true true in_flight s kept so_far = given_back-by_rule w u so_far
+commit-by_rule w u true false in_flight s kept so_far = committed-by_rule w u in_flight s kept so_far
 
-give_back-rightly :
+give_back-by_rule :
     (w : RoundState) (u : ℕ) (in_flight : Bool) → IsPickedSoFar w → IsPickedSoFar (cond in_flight (given_back w u) w)
-give_back-rightly w u true so_far = given_back-rightly w u so_far
-give_back-rightly w u false so_far = so_far
+give_back-by_rule w u true so_far = given_back-by_rule w u so_far
+give_back-by_rule w u false so_far = so_far
 
 -- so the same holds after each event
-pub rightly-happens :
+pub by_rule-happens :
     (w : RoundState) (e : Event)
     → CanGoBy w.past w.setup → IsInOrder w → IsPickedSoFar w → goes_on_by (pick_of w) e ≡ true
     → IsPickedSoFar (happens w e)
 unfolding happens
-rightly-happens w (Take u) premise kept so_far goes =
-    take-rightly w u (can_take w u) (kept.scratch premise.sound) kept so_far (take-chosen w u goes)
-rightly-happens w (Reuse u) premise kept so_far goes =
-    reuse-rightly w u (can_reuse w u) refl (kept.scratch premise.sound) kept so_far (reuse-chosen w u goes)
-rightly-happens w (Commit u) premise kept so_far goes =
-    commit-rightly w u (is_in_flight w u) (is_finished w) refl (kept.scratch premise.sound) kept so_far
-rightly-happens w (GiveBack u) premise kept so_far goes = give_back-rightly w u (is_in_flight w u) so_far
-rightly-happens w Stop premise kept so_far goes =
+by_rule-happens w (Take u) premise kept so_far goes =
+    take-by_rule w u (can_take w u) (kept.scratch premise.sound) kept so_far (take-chosen w u goes)
+by_rule-happens w (Reuse u) premise kept so_far goes =
+    reuse-by_rule w u (can_reuse w u) refl (kept.scratch premise.sound) kept so_far (reuse-chosen w u goes)
+by_rule-happens w (Commit u) premise kept so_far goes =
+    commit-by_rule w u (is_in_flight w u) (is_finished w) refl (kept.scratch premise.sound) kept so_far
+by_rule-happens w (GiveBack u) premise kept so_far goes = give_back-by_rule w u (is_in_flight w u) so_far
+by_rule-happens w Stop premise kept so_far goes =
     record {
       entries = so_far.entries;
       held = λ t raised.
-          let before : IsInFlightRightly w t = so_far.held t raised in
-          record { earlier = before.earlier; rightly = before.rightly };
+          let before : IsInFlightByRule w t = so_far.held t raised in
+          record { earlier = before.earlier; by_rule = before.by_rule };
     }
 
 -- and at the start
-pub rightly-opening : (setup : Setup) (past : Option History) → IsPickedSoFar (opening setup past)
-rightly-opening setup past =
+pub by_rule-opening : (setup : Setup) (past : Option History) → IsPickedSoFar (opening setup past)
+by_rule-opening setup past =
     record {
       entries = record {
         each = refl;
-        rightly = λ i e there. absurd (let within = slice_get_within [] i e there in omega arith);
+        by_rule = λ i e there. absurd (let within = slice_get_within [] i e there in omega arith);
       };
       held = λ t raised. absurd (let none = none_in_flight-none t in cc);
     }

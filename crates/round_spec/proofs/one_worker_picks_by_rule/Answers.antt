@@ -1,6 +1,6 @@
--- Answers to the goals that the check of `one_worker_picks_rightly` leaves open.
+-- Answers to the goals that the check of `one_worker_picks_by_rule` leaves open.
 use Rattle.round_spec.proofs.Picked.{lone-all_picked, lone-points}
-use Rattle.round_spec.proofs.one_worker_picks_rightly.Goals as goal
+use Rattle.round_spec.proofs.one_worker_picks_by_rule.Goals as goal
 
 pub returns-clause-entries : goal.returns-clause-entries
 returns-clause-entries c = λ setup past premise. lone-all_picked setup past premise.valid premise.sound
