@@ -11,14 +11,12 @@ use Rattle.memo_spec.specs.Encoding.{AreBytes, memo}
 use Rattle.rerun_spec.specs.Encoded.{IsEncodedPast}
 use Rattle.propagate.specs.Consistency.{IsOfMap}
 use Rattle.report_spec.specs.declared.Entry.{Entry}
-use Rattle.report_spec.specs.Report.{ReportData, no_extras, report_text}
-use Rattle.rerun_spec.specs.declared.Asked.{Asked}
+use Rattle.report_spec.specs.Report.{ReportData, no_extras}
 use Rattle.rerun_spec.specs.Inputs.{AreShort}
-use Rattle.rerun_spec.specs.Rounds.{Found, Round, Beginning, IsMade, IsWatched, round_on, after_round, with_input}
-use Rattle.rerun_spec.specs.Reports.{data_as_made, extras_of, made_report, made_exits, all_exit, all_made_exit, all_executed}
+use Rattle.rerun_spec.specs.Rounds.{Found, Beginning, IsMade, IsWatched, with_input}
+use Rattle.rerun_spec.specs.Reports.{all_exit, all_made_exit, all_executed}
 use Rattle.plain_machine.specs.declared.replaying.Outcome.{Outcome}
 use Rattle.round_report.specs.Replay.{replay_text}
-use Rattle.round_report.specs.Short.{short_text, made_short}
 use Rattle.ith_host.specs.World.{World}
 use Rattle.ith_words.specs.Words.{Text, Line, Replays, ReplayLine}
 use Rattle.ith_commands.specs.declared.plan.Plan.{Plan as Planned}

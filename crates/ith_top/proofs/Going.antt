@@ -1,8 +1,7 @@
 -- Rounds that are being made: those so far were printed, and the others are still to come.
-use Rattle.std.proofs.Common.{◌≡◌, ◌+◌, ◌≤◌, ℕ, suc, Bool, true, false, ◌&&◌, List, [], ◌∷◌, ◌++◌, length, take, map, slice_get, Option, Some, None, refl, ap, sym, subst, ◌∙◌, append_assoc, arith}
+use Rattle.std.proofs.Common.{◌≡◌, ◌+◌, ◌≤◌, ℕ, suc, Bool, true, false, ◌&&◌, List, [], ◌∷◌, ◌++◌, length, take, map, slice_get, Some, refl, ap, sym, subst, ◌∙◌, append_assoc, arith}
 use Rattle.std.specs.Prelude.{All}
 use Rattle.std.specs.List.{AllByRecursion, concat, list_all}
-use Rattle.std.specs.Io.KnownBytes.{Appends}
 use Rattle.std.proofs.lemmas.List.{append-nil, map_push, map-append}
 use Rattle.std.proofs.lemmas.List.Folds.{list_all-append}
 use Rattle.std.proofs.lemmas.List.Sums.{sum_by_push}
@@ -12,11 +11,11 @@ use Rattle.history_spec.specs.History.{History}
 use Rattle.rerun_spec.specs.Inputs.{AreShort}
 use Rattle.rerun_spec.specs.Rounds.{Found, Round, Beginning, IsMade, IsWatched, round_on, after_round, rounds_after, after_rounds, history_at}
 use Rattle.rerun_spec.specs.Reports.{made_report, made_reports, made_exits, all_made_exit}
-use Rattle.ith_host.specs.World.{World, NoneFell, Stays, AsksNothing}
+use Rattle.ith_host.specs.World.{World, NoneFell, AsksNothing}
 use Rattle.ith_top.specs.declared.report.Form.TheVariants as form
 use Rattle.ith_commands.specs.declared.status.Status.{Status}
 use Rattle.ith_commands.specs.declared.status.Status.TheVariants as status
-use Rattle.ith_commands.specs.Ends.{Prints, IsPrintedInPart}
+use Rattle.ith_commands.specs.Ends.{Prints}
 use Rattle.ith_commands.specs.Contents.{Plan}
 use Rattle.ith_commands.specs.Refusals.{WhyUnprinted, IsPlayedInPart}
 use Rattle.ith_commands.specs.Counting.{Work, IsCounted, turns_for}
