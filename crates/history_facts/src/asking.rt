@@ -8,10 +8,9 @@ ghost use Rattle.history_spec.specs.Facts as order;
 ghost use Rattle.history_facts.specs.Asking.{call_in};
 
 use guest_call::{Call, Object};
-use page_store::PageMap;
+use page_store::{PageMap, Range, appends_all};
 use sync_objects::{ActedOn, Effect, Objects};
 use thunk_record::Record;
-use thunk_run::{Range, appends_all};
 use thunk_spec::ThunkEnd;
 
 /// The call that ends a record's thunk; none if the thunk stops the machine.

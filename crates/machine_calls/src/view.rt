@@ -6,10 +6,9 @@ ghost use Rattle.memory_spec.specs.Pages.{Memory};
 ghost use Rattle.thunk_spec.specs.Put.{is_readable};
 ghost use Rattle.guest_call.specs.Objects.{appends};
 
-use page_store::{PageMap, PageTable};
+use page_store::{PageMap, PageTable, Range};
 use std::alloc::AllocError;
 use std::sync::Arc;
-use thunk_run::Range;
 
 /// A memory that may be the view of a thread.
 pub trait View: Drop {
@@ -36,6 +35,6 @@ impl View for Arc<PageTable> {
     }
 
     fn appends_all(map: &PageMap, start: u32, count: u32) -> bool {
-        thunk_run::appends_all(map, Range { start, len: count })
+        page_store::appends_all(map, Range { start, len: count })
     }
 }

@@ -3,7 +3,7 @@
 use super::thunks::{LOOP, job_of};
 use shared_words::Issuer;
 use std::alloc::AllocError;
-use thunk_run::Job;
+use thunk_record::Job;
 
 /// Whether a first ticket for a job is the last one of thread 3, and of thread 2; and after a second one was issued,
 /// whether the first one is the last of thread 3, and whether the second one is.

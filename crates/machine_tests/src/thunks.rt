@@ -10,8 +10,8 @@ use std::alloc::{AllocError, Global};
 use std::sync::Arc;
 use std::sync::atomic::{AtomicU64, Ordering};
 use std::thread::Threads;
-use thunk_record::Frame;
-use thunk_run::{Job, LONG_TURNS, Run, Watch, execute, execute_watched};
+use thunk_record::{Frame, Job};
+use thunk_run::{LONG_TURNS, Run, Watch, execute, execute_watched};
 use thunk_spec::ThunkEnd;
 
 /// lui t0,0x10; lw t1,0x18(t0); sw t1,0x10(t0); addi a7,x0,0; addi a0,x0,1; ecall; and the word of

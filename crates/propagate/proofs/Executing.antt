@@ -34,8 +34,8 @@ use Rattle.round_spec.proofs.Ending.{lone-ends, lone-discarded}
 use Rattle.round_spec.proofs.Unedited.{unedited-reuses}
 use Rattle.round_spec.specs.Replaying.{IsReplaying, goes_on_by}
 use Rattle.round_spec.proofs.Replay.{replays-on, replays-next}
-use Rattle.thunk_run.specs.declared.job.Job.{Job}
-use Rattle.thunk_run.specs.declared.job.Run.{Run}
+use Rattle.thunk_record.specs.declared.job.Job.{Job}
+use Rattle.thunk_run.specs.declared.run.Run.{Run}
 use Rattle.thunk_run.specs.Running.{IsRunOf}
 use Rattle.release_core.specs.Jobs.{IsJobOf}
 use Rattle.round_spec.specs.Working.{ReexecutesLeast}

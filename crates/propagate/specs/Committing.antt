@@ -5,7 +5,7 @@ use Rattle.thunk_spec.specs.Thunk.{Frame}
 use Rattle.thunk_spec.specs.Record.{Record}
 use Rattle.machine_spec.specs.Step.{fits}
 use Rattle.machine_spec.specs.Schedule.{record_of}
-use Rattle.thunk_run.specs.declared.job.Run.{Run}
+use Rattle.thunk_run.specs.declared.run.Run.{Run}
 use Rattle.round_spec.specs.declared.events.Event.TheVariants.{Commit, GiveBack}
 use Rattle.round_spec.specs.Rounds.{RoundState, is_finished, is_in_flight, taken_when, happens}
 use Rattle.propagate.specs.declared.events.Committed.{Committed}

@@ -22,8 +22,8 @@ use release_core::{Core, Records};
 use report_spec::Entry;
 use std::alloc::AllocError;
 use std::sync::Arc;
-use thunk_record::Record;
-use thunk_run::{Job, Run};
+use thunk_record::{Job, Record};
+use thunk_run::Run;
 
 /// What came of committing an executed step.
 #[derive(Drop)]

@@ -2,7 +2,7 @@
 use Rattle.std.specs.Prelude.{◌≡◌, ℕ}
 use Rattle.std.specs.Arc.{arc_value}
 use Rattle.machine_spec.specs.Machine.{Machine, hart_of}
-use Rattle.thunk_run.specs.declared.job.Job.{Job}
+use Rattle.thunk_record.specs.declared.job.Job.{Job}
 
 -- A job is the next step of a thread of a machine.
 pub record IsJobOf (m : Machine) (t : ℕ) (job : Job) : Type 0 where

@@ -24,8 +24,7 @@ use std::alloc::{AllocError, Global};
 use std::marker::Model;
 use std::sync::Arc;
 use sync_objects::Objects;
-use thunk_record::{Compared, Frame, Record, fits, fits_counted};
-use thunk_run::Job;
+use thunk_record::{Compared, Frame, Job, Record, fits, fits_counted};
 
 /// Why a record wasn't applied.
 #[derive(Clone, Copy, Drop)]

@@ -6,10 +6,9 @@ ghost use Rattle.thunk_spec.specs.Put.{byte_at, bytes_at, is_readable};
 ghost use Rattle.thunk_spec.specs.Delta.{masked};
 ghost use Rattle.thunk_spec.specs.Record.{put_of};
 
-use page_store::{Page, PageMap, PageTable, committed_page};
+use page_store::{Page, PageMap, PageTable, Range, committed_page};
 use std::alloc::{AllocError, Global};
-use thunk_record::Record;
-use thunk_run::{Range, put_range};
+use thunk_record::{Record, put_range};
 
 /// The page of an address, in a thread's view with the stored bytes of a thunk applied; a page of zeros if there is
 /// none. No other page is read.

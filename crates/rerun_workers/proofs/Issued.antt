@@ -15,8 +15,8 @@ use Rattle.history_spec.specs.History.{History}
 use Rattle.history_spec.proofs.Applying.{apply-stays}
 use Rattle.history_spec.proofs.Scratch.{and-left}
 use Rattle.history_spec.proofs.Truth.{past-of}
-use Rattle.thunk_run.specs.declared.job.Job.{Job}
-use Rattle.thunk_run.specs.declared.job.Run.{Run}
+use Rattle.thunk_record.specs.declared.job.Job.{Job}
+use Rattle.thunk_run.specs.declared.run.Run.{Run}
 use Rattle.release_core.specs.Jobs.{IsJobOf}
 use Rattle.shared_words.specs.TicketViews.{TicketView, IssuerView, job_of}
 use Rattle.round_spec.specs.declared.events.Event.{Event}

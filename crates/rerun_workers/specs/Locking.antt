@@ -3,7 +3,7 @@ use Rattle.std.specs.Prelude.{◌≡◌, ◌+◌, ◌<◌, ℕ, zero, suc, ⊤, 
 use Rattle.std.specs.Arc.{arc_value}
 use Rattle.thunk_spec.specs.Thunk.{Frame}
 use Rattle.release_core.specs.Jobs.{IsJobOf}
-use Rattle.thunk_run.specs.declared.job.Run.{Run}
+use Rattle.thunk_run.specs.declared.run.Run.{Run}
 use Rattle.round_spec.specs.declared.events.Event.TheVariants.{Take, Reuse, Commit, GiveBack, Stop}
 use Rattle.round_spec.specs.declared.events.Pick.{Pick}
 use Rattle.round_spec.specs.declared.events.Pick.TheVariants as pick

@@ -1,8 +1,8 @@
 -- Tickets for the steps of a round that are in flight.
 use Rattle.std.specs.Prelude.{◌≡◌, ℕ, ⊤, true, Option, Some, None, IfSome, slice_get}
 use Rattle.logbook.specs.Pages.{Book}
-use Rattle.thunk_run.specs.declared.job.Job.{Job}
-use Rattle.thunk_run.specs.declared.job.Run.{Run}
+use Rattle.thunk_record.specs.declared.job.Job.{Job}
+use Rattle.thunk_run.specs.declared.run.Run.{Run}
 use Rattle.thunk_run.specs.Running.{IsRunOf}
 use Rattle.release_core.specs.Jobs.{IsJobOf}
 use Rattle.shared_words.specs.TicketViews.{TicketView, IssuerView, IsForLastJob}

@@ -4,7 +4,7 @@ ghost use Rattle.std.proofs.Props.{props};
 ghost use Rattle.rerun_workers.specs.Tickets.{IsTicketOf};
 
 use shared_words::Ticket;
-use thunk_run::Job;
+use thunk_record::Job;
 
 /// A step that was assigned to a worker, with its ticket, if there is one.
 #[derive(Drop)]

@@ -29,7 +29,8 @@ use std::alloc::{AllocError, Global};
 use std::sync::ledger::Share;
 use std::sync::{Condvar, Mutex, Wait};
 use std::thread::Threads;
-use thunk_run::{Job, Run};
+use thunk_record::Job;
+use thunk_run::Run;
 
 /// What workers share: the round under a lock, and the condition that there is work, or will be none. A worker executes
 /// outside the lock, and a watcher takes no lock.

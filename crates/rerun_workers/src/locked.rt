@@ -28,7 +28,8 @@ use round_spec::Pick;
 use shared_words::{Issuer, Ticket};
 use std::alloc::AllocError;
 use std::sync::ledger::Book;
-use thunk_run::{Job, Run};
+use thunk_record::Job;
+use thunk_run::Run;
 
 /// What a worker is to do next.
 #[derive(Drop)]

@@ -21,7 +21,8 @@ use std::alloc::{AllocError, Global};
 use std::sync::Wait;
 use std::thread;
 use std::thread::Threads;
-use thunk_run::{Job, Run, Watch, execute_watched};
+use thunk_record::Job;
+use thunk_run::{Run, Watch, execute_watched};
 
 /// Looks, when a worker's step runs long, whether there is something for another worker, and wakes one.
 #[derive(Drop)]

@@ -13,8 +13,8 @@ use Rattle.machine_spec.proofs.Steps.{step-stays}
 use Rattle.history_spec.proofs.Applying.{apply-stays, apply-frame}
 use Rattle.history_spec.proofs.Scratch.{step-frame}
 use Rattle.history_spec.proofs.Truth.{past-of}
-use Rattle.thunk_run.specs.declared.job.Job.{Job}
-use Rattle.thunk_run.specs.declared.job.Run.{Run}
+use Rattle.thunk_record.specs.declared.job.Job.{Job}
+use Rattle.thunk_run.specs.declared.run.Run.{Run}
 use Rattle.round_spec.specs.declared.events.Event.{Event}
 use Rattle.round_spec.specs.declared.events.Event.TheVariants.{Take, Reuse, Commit, GiveBack, Stop}
 use Rattle.round_spec.specs.Marks.{record_for, fits_next}

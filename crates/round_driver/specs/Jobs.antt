@@ -1,7 +1,7 @@
 -- The steps that were taken.
 use Rattle.std.specs.Prelude.{◌≡◌, ℕ, true, List, Option, Some, None, is_some, length, slice_index_or}
 use Rattle.machine_spec.specs.Machine.{Machine}
-use Rattle.thunk_run.specs.declared.job.Job.{Job}
+use Rattle.thunk_record.specs.declared.job.Job.{Job}
 use Rattle.release_core.specs.Jobs.{IsJobOf}
 use Rattle.round_spec.specs.Rounds.{RoundState, is_in_flight}
 

@@ -25,8 +25,8 @@ use rv_isa::Turns;
 use std::alloc::{AllocError, Global};
 use std::array;
 use std::sync::Arc;
-use thunk_record::Compared;
-use thunk_run::{Job, execute};
+use thunk_record::{Compared, Job};
+use thunk_run::execute;
 
 /// A round, and the job of each thread that is in flight.
 #[derive(Drop)]

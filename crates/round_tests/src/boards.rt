@@ -19,7 +19,8 @@ use std::sync::atomic::{AtomicU64, Ordering};
 use std::sync::{Arc, Wait};
 use std::test::Fail;
 use std::thread::Threads;
-use thunk_run::{Job, Run, execute};
+use thunk_record::Job;
+use thunk_run::{Run, execute};
 
 /// A round of the guest before its first step, with so much fuel.
 fn opened(alloc: Global, fuel: u32) -> Result<Round, Fail>

@@ -6,7 +6,7 @@ use Rattle.std.specs.Prelude.{MatchBool}
 use mathlib.Core.List.{IsPrefix}
 use prog.Atomic.{either}
 use Rattle.logbook.specs.Pages.{Cell, cell, keeps, no_nib, step, Moves, Goes}
-use Rattle.thunk_run.specs.declared.job.Job.{Job}
+use Rattle.thunk_record.specs.declared.job.Job.{Job}
 use Rattle.shared_words.specs.Rules.{IsKept, Appends}
 use Rattle.shared_words.proofs.Prefixes.{prefix_whole}
 

@@ -1,7 +1,7 @@
 -- What is known of the last tickets of all threads.
 use Rattle.std.proofs.Common.{◌≡◌, ℕ, zero, suc, ◌+◌, ◌<◌, ◌≤◌, ◌⊎◌, inl, inr, refl, List, [], ◌∷◌, ◌++◌, length, map, replicate, set, Option, Some, None, slice_get, ap, sym, ◌∙◌, arith, length-append, ⊎_elim}
 use Rattle.std.proofs.lemmas.List.{map-set}
-use Rattle.thunk_run.specs.declared.job.Job.{Job}
+use Rattle.thunk_record.specs.declared.job.Job.{Job}
 use Rattle.shared_words.specs.TicketViews.{LogView, TicketView, job_at, job_of, number_of, no_numbers, AreBelow, Appended}
 
 none_in : (k t n : ℕ) → slice_get {X = Option ℕ} (replicate k None) t ≡ Some (Some n) → ⊥

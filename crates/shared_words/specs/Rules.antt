@@ -1,7 +1,7 @@
 -- The rule of the log of issued jobs, and what a step on its word gives.
 use Rattle.std.specs.Prelude.{ℕ, ◌≡◌, ◌==◌, true, List, [], ◌∷◌, ◌++◌, length, MatchBool}
 use Rattle.logbook.specs.Pages.{Cell, Step, View}
-use Rattle.thunk_run.specs.declared.job.Job.{Job}
+use Rattle.thunk_record.specs.declared.job.Job.{Job}
 
 -- A book has two words: the first is the length of the log, and the second is 0.
 pub record IsKept (cells : List Cell) (log : List Job) : Type 0 where

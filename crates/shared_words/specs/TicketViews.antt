@@ -1,7 +1,7 @@
 -- What contracts see of tickets, of their log, and of an issuer.
 use Rattle.std.specs.Prelude.{ℕ, ◌≡◌, ◌<◌, true, List, [], ◌∷◌, ◌++◌, length, Option, Some, None, replicate, slice_get}
 use Rattle.logbook.specs.Pages.{Book, Named}
-use Rattle.thunk_run.specs.declared.job.Job.{Job}
+use Rattle.thunk_record.specs.declared.job.Job.{Job}
 
 -- A ticket: the book whose log has its job, the number of the job there, and the job.
 pub record TicketView : Type 0 where

@@ -6,7 +6,7 @@ ghost use Rattle.shared_words.specs.TicketViews.{no_numbers, job_of, number_of, 
 use super::log::{Log, Ticket};
 use guest_call::THREADS;
 use std::marker::Model;
-use thunk_run::Job;
+use thunk_record::Job;
 
 /// Issues tickets, and keeps the number of each thread's last one. Clauses see the book of their log, and the job of
 /// each thread's last ticket, or none if none could be issued.

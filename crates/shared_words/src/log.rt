@@ -1,13 +1,13 @@
 //! The log of the jobs for which tickets were issued. Its jobs exist only in proofs, its length is a word.
 
 ghost use Rattle.std.specs.Prelude.{◌≡◌, [], Some, slice_get, IfSome};
-ghost use Rattle.thunk_run.specs.declared.job.Job.{Job as Issued};
+ghost use Rattle.thunk_record.specs.declared.job.Job.{Job as Issued};
 ghost use Rattle.shared_words.specs.TicketViews.{Appended};
 
 use super::rule::{Append, Counts, Nothing};
 use logbook::{Offer, Seen, Start, Word};
 use std::marker::Model;
-use thunk_run::Job;
+use thunk_record::Job;
 
 /// A ticket. Clauses see the book of its log, its number there, and its job.
 #[derive(Drop)]

@@ -1,7 +1,7 @@
 //! The rule of the log of issued jobs, and what a step on its word gives. The log itself exists only in proofs.
 
 use logbook::{Gain, Plain, Play, Rule};
-use thunk_run::Job;
+use thunk_record::Job;
 
 /// The rule: the word is the length of the log.
 pub(super) struct Counts;

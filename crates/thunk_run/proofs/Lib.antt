@@ -3,4 +3,3 @@ pub mod Leaving
 pub mod Entering
 pub mod Keeping
 pub mod Counting
-pub mod Ends

@@ -2,8 +2,8 @@
 use Rattle.std.specs.Prelude.{◌≡◌, ◌≤◌, ℕ}
 use Rattle.std.specs.Arc.{arc_value}
 use Rattle.thunk_spec.specs.Record.{kept_thunk}
-use Rattle.thunk_run.specs.declared.job.Job.{Job}
-use Rattle.thunk_run.specs.declared.job.Run.{Run}
+use Rattle.thunk_record.specs.declared.job.Job.{Job}
+use Rattle.thunk_run.specs.declared.run.Run.{Run}
 
 -- The result of running a job.
 pub record IsRunOf (job : Job) (run : Run) : Type 0 where

@@ -1,41 +1,19 @@
 //! A thunk run on a view.
 
-ghost use Rattle.std.specs.Prelude.{◌≡◌, ◌+◌, ◌≤◌, length, IfOk};
+ghost use Rattle.std.specs.Prelude.{◌≡◌, ◌+◌, ◌≤◌, IfOk};
 ghost use Rattle.std.specs.Arc.{arc_value};
 ghost use Rattle.memory_spec.specs.Pages.{IsMemory};
 ghost use Rattle.thunk_spec.specs.Record.{kept_thunk};
 ghost use Rattle.thunk_run.specs.Running.{IsRunOf, IsWithinFuel};
 
-use super::job::{Job, Run};
+use super::run::Run;
 use super::turns::make_thunk;
 use super::watch::{Unwatched, Watch};
-use page_store::PageTable;
 use priv_space::Space;
-use rv_isa::{Regs, Turns};
+use rv_isa::Turns;
 use std::alloc::{AllocError, Global};
 use std::sync::Arc;
-use thunk_record::{Frame, Kept, Record};
-
-impl Job {
-    /// The next thunk of a thread that has made `number` steps, with these registers, on this view. The view has as
-    /// many pages as the map of the frame. Allocates no memory.
-    pub fn new(frame: Arc<Frame>, thread: u8, number: u32, regs: Regs, view: Arc<PageTable>) -> Job
-        requires { length (arc_value view) ≡ length (arc_value frame).map }
-        ensures frame { result.frame ≡ frame }
-        ensures thread { result.thread ≡ thread }
-        ensures number { result.number ≡ number }
-        ensures registers { result.regs ≡ regs }
-        ensures view { result.view ≡ view }
-    {
-        Job {
-            frame,
-            thread,
-            number,
-            regs,
-            view,
-        }
-    }
-}
+use thunk_record::{Job, Kept, Record};
 
 /// Runs the thunk of a job, and returns what is kept of it. The watch is called if it runs long.
 ///

@@ -4,13 +4,13 @@ ghost use Rattle.std.specs.Prelude.{◌≡◌, ◌+◌, ◌≤◌, IfOk};
 ghost use Rattle.thunk_run.specs.TurnsOutcome.{TurnsOutcome, outcome_after, with_put_taken};
 
 use super::pages::{PAGE_TURNS, Seen, run_pages};
-use super::put::{put_range, take_range};
+use super::put::take_range;
 use super::watch::{LONG_TURNS, Watch};
 use page_store::Mem;
 use rv_isa::{Regs, Turns};
 use rv_step::step;
 use std::alloc::{AllocError, Global};
-use thunk_record::Frame;
+use thunk_record::{Frame, put_range};
 use thunk_spec::{Outcome, ThunkEnd};
 
 /// How turns ended, and how many they were.

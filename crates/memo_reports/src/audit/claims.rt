@@ -10,8 +10,7 @@ ghost use Rattle.memo_reports.specs.Claims.{IsClaimOf, AreClaims};
 use release_core::{Core, Records};
 use std::alloc::{AllocError, Global};
 use std::sync::Arc;
-use thunk_record::Record;
-use thunk_run::Job;
+use thunk_record::{Job, Record};
 
 /// The most claims at once: enough for each worker to have work for longer than it takes to start it, and few enough to
 /// hold their views.

@@ -2,7 +2,7 @@
 use Rattle.std.proofs.Common.{◌≡◌, ◌∙◌, ap, sym, subst, ℕ, zero, suc, eqb, slice_get, get_or, true, is_some, Some, None, List, [], ◌∷◌, Option, refl}
 use Rattle.std.specs.Option.{option_eq}
 use Rattle.std.proofs.lemmas.Bool.{eqb-true}
-use Rattle.thunk_run.specs.declared.job.Job.{Job}
+use Rattle.thunk_record.specs.declared.job.Job.{Job}
 use Rattle.shared_words.proofs.Issuing.{last_job}
 use Rattle.shared_words.proofs.issuer.Issuer.is_last.Goals as goal
 
