@@ -100,7 +100,8 @@ fn follow_picks<G: Gate>(
 ///
 /// # Errors
 ///
-/// An error if the host's memory ran out; the counters may have risen, and are never lower.
+/// An error if the host's memory ran out, or a shared part has as many holders as can be counted; the counters may have
+/// risen, and are never lower.
 pub fn run_alone_shown<G: Gate>(
     alloc: Global,
     setup: Setup,
@@ -136,7 +137,8 @@ pub fn run_alone_shown<G: Gate>(
 ///
 /// # Errors
 ///
-/// An error if the host's memory ran out; the counters may have risen, and are never lower.
+/// An error if the host's memory ran out, or a shared part has as many holders as can be counted; the counters may have
+/// risen, and are never lower.
 pub fn run_alone(
     alloc: Global,
     setup: Setup,

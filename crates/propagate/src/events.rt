@@ -87,7 +87,8 @@ impl Round {
     ///
     /// # Errors
     ///
-    /// An error if the host's memory ran out; the round is then as before.
+    /// An error if the host's memory ran out, or a shared part has as many holders as can be counted; the round is then
+    /// as before.
     #[tactic(auto, using(crate::proofs::Keeping::valid_consistent))]
     pub fn reuse(&mut self, t: u8) -> Result<(), AllocError>
         requires { can_reuse self.old t ≡ true }
@@ -125,7 +126,8 @@ impl Round {
     ///
     /// # Errors
     ///
-    /// An error if the host's memory ran out; the round is then as before.
+    /// An error if the host's memory ran out, or a shared part has as many holders as can be counted; the round is then
+    /// as before.
     #[tactic(auto, using(crate::proofs::Keeping::valid_consistent))]
     pub fn take(&mut self, t: u8) -> Result<Job, AllocError>
         requires { can_take self.old t ≡ true }
@@ -184,7 +186,8 @@ impl Round {
     ///
     /// # Errors
     ///
-    /// An error if the host's memory ran out; the round is then as before.
+    /// An error if the host's memory ran out, or a shared part has as many holders as can be counted; the round is then
+    /// as before.
     #[tactic(auto, using(crate::proofs::Keeping::valid_consistent))]
     pub(super) fn commit_executed(&mut self, run: &Run) -> Result<(), AllocError>
         requires { CanCommit (happens self.old (event.Take (arc_value run.now.rec).thread))

@@ -142,7 +142,7 @@ impl Round {
     ///
     /// # Errors
     ///
-    /// An error if the host's memory ran out.
+    /// An error if the host's memory ran out, or a shared part has as many holders as can be counted.
     #[tactic(auto, using(crate::proofs::Keeping::kept_opening))]
     pub fn new(alloc: Global, setup: Setup, past: Option<Arc<History>>) -> Result<Round, AllocError>
         ensures round { IfOk result (λ round. round ≡ opening setup (option_map arc_value past)) }

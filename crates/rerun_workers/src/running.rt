@@ -143,7 +143,7 @@ fn run_together<J: Naming + Send + Sync, R: Threads + Wait + Sync, G: Gate + Syn
 ///
 /// # Errors
 ///
-/// An error if the host's memory ran out.
+/// An error if the host's memory ran out, or a shared part has as many holders as can be counted.
 // Not inlined, since its frame holds rounds by value, and would be added to its caller's.
 #[inline(never)]
 pub fn run_round<R: Threads + Wait + Sync, G: Gate + Sync>(
@@ -185,7 +185,7 @@ pub fn run_round<R: Threads + Wait + Sync, G: Gate + Sync>(
 ///
 /// # Errors
 ///
-/// An error if the host's memory ran out.
+/// An error if the host's memory ran out, or a shared part has as many holders as can be counted.
 // Not inlined, since its frame holds rounds by value, and would be added to its caller's.
 #[inline(never)]
 pub fn run_round_watched<R: Threads + Wait + Sync, G: Gate + Sync>(

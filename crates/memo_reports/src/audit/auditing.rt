@@ -46,7 +46,7 @@ fn verdict_from<R: Threads + Sync>(
 ///
 /// # Errors
 ///
-/// An error if the host's memory ran out.
+/// An error if the host's memory ran out, or a shared part has as many holders as can be counted.
 pub fn audit<R: Threads + Sync>(
     rt: &R,
     alloc: Global,

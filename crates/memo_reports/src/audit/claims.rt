@@ -43,7 +43,7 @@ fn claim_of(core: &mut Core, rec: &Arc<Record>) -> Result<Claim, AllocError>
 ///
 /// # Errors
 ///
-/// An error if the host's memory ran out.
+/// An error if the host's memory ran out, or a shared part has as many holders as can be counted.
 pub(super) fn claims_from(
     alloc: Global,
     core: &mut Core,

@@ -75,7 +75,7 @@ fn cut_of(claims: &[Claim], few: u32, all: u32) -> usize
 ///
 /// # Errors
 ///
-/// An error if the host's memory ran out.
+/// An error if the host's memory ran out, or a shared part has as many holders as can be counted.
 pub(super) fn audit_together<R: Threads + Sync>(
     rt: &R,
     alloc: Global,
