@@ -29,7 +29,7 @@ use elf_spec::MOST_ELF_BYTES;
 use ith_host::{Got, Host, OsHost};
 use machine_spec::{Limits, MOST_INPUT_BYTES};
 use refusal::Refusal;
-use release_core::Setup;
+use run_history::Setup;
 use rv_isa::Turns;
 use schedule::tokens_of;
 use schedule_list::{MOST_SCHEDULE_BYTES, parse};

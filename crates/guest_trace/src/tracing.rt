@@ -6,7 +6,7 @@ use crate::waits::{Wait, Waits};
 use guest_call::{Fate, THREADS};
 use machine_spec::{Asked, End, Status};
 use plain_machine::{PlainMachine, StepResult};
-use release_core::Setup;
+use run_history::Setup;
 use rv_isa::Turns;
 use std::alloc::Global;
 use std::io;

@@ -6,7 +6,7 @@ ghost use Rattle.history_spec.specs.History.{applied_from, can_apply_from, is_co
 ghost use Rattle.machine_spec.specs.Step as step;
 ghost use Rattle.history_spec.specs.Facts as order;
 ghost use Rattle.release_core.specs.Applying.{can_apply};
-ghost use Rattle.release_core.specs.Records.{AreOfRun};
+ghost use Rattle.run_history.specs.Records.{AreOfRun};
 
 mod asking;
 mod outline;
@@ -16,8 +16,8 @@ mod slots;
 
 use depend_graph::Fact;
 use outline::Outline;
-use release_core::{History, Records};
 use replay::Replay;
+use run_history::{History, Records};
 use std::alloc::{AllocError, Global};
 use sync_objects::ActedOn;
 use thunk_record::Record;

@@ -15,7 +15,7 @@ use depend_graph::Fact;
 use guest_call::THREADS;
 use machine_spec::MOST_STEPS;
 use page_store::PageMap;
-use release_core::{Records, Setup};
+use run_history::{Records, Setup};
 use std::alloc::{AllocError, Global};
 use sync_objects::{ActedOn, Effect, Objects};
 use thunk_record::Record;

@@ -8,7 +8,8 @@ ghost use Rattle.history_spec.specs.Facts as order;
 
 use super::outline::Outline;
 use depend_graph::Fact;
-use release_core::{Core, Records, Setup};
+use release_core::Core;
+use run_history::{Records, Setup};
 use std::alloc::{AllocError, Global};
 use std::marker::Model;
 use thunk_record::Record;

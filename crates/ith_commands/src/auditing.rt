@@ -15,7 +15,7 @@ use super::status::Status;
 use ith_host::Host;
 use ith_words::AuditLine;
 use memo_reports::audit::{self, Verdict};
-use release_core::History;
+use run_history::History;
 use std::alloc::{AllocError, Global};
 use std::thread::Threads;
 

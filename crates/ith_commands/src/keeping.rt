@@ -10,7 +10,7 @@ use super::complaints::{long_memo_line, name_line};
 use super::status::Status;
 use ith_host::{Host, Put};
 use memo_file::{WriteError, write};
-use release_core::History;
+use run_history::History;
 use std::alloc::Global;
 
 /// Writes the bytes of a memo, which isn't too long, to the file of this name.

@@ -26,8 +26,8 @@ use ith_host::Host;
 use ith_words::{RerunLine, RunLine};
 use machine_spec::{Limits, MOST_INPUT_BYTES};
 use memo_file::{ReadError, read};
-use release_core::{History, Setup};
 use rerun_spec::Asked;
+use run_history::{History, Setup};
 use std::alloc::{AllocError, Global};
 use std::sync::Arc;
 

@@ -11,8 +11,8 @@ ghost use Rattle.ith_commands.specs.Counting.{Spends};
 
 use ith_host::Gate;
 use propagate::Round;
-use release_core::{History, Setup};
 use rerun_workers::{ClosedRound, Effort, run_round, run_round_watched};
+use run_history::{History, Setup};
 use rv_isa::{Tally, Turns};
 use std::alloc::{AllocError, Global};
 use std::marker::Model;

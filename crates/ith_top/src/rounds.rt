@@ -10,7 +10,7 @@ use super::crew::Crew;
 use super::report::{Form, ReportedRound, make_round};
 use ith_commands::{Beginning, Plan, Status, print_text, take_input};
 use ith_host::{Gate, Host};
-use release_core::History;
+use run_history::History;
 use std::alloc::Global;
 use std::sync::{Arc, Wait};
 use std::thread::Threads;

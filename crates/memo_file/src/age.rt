@@ -15,7 +15,7 @@ use isa_spec::Cause;
 use memo_spec::{Format, Refusal};
 use memory_spec::PAGE_SIZE;
 use page_store::{PageDelta, PageMap, ReadPage};
-use release_core::History;
+use run_history::History;
 use thunk_record::Record;
 use thunk_spec::ThunkEnd;
 

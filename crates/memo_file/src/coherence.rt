@@ -6,7 +6,8 @@ ghost use Rattle.memo_file.specs.Gives.{Gives};
 
 use crate::error::ReadError;
 use memo_spec::Refusal;
-use release_core::{ApplyError, Core, History};
+use release_core::{ApplyError, Core};
+use run_history::History;
 
 /// Applies the records of a history one after the other, from a machine on: each has to fit after those before it, and
 /// the end has to come with the last one.

@@ -7,7 +7,7 @@ ghost use Rattle.history_spec.specs.History.{threads_of_records};
 use guest_call::THREADS;
 use machine_spec::MOST_STEPS;
 use page_store::{Page, PageMap};
-use release_core::Records;
+use run_history::Records;
 use std::alloc::{AllocError, Global};
 use std::marker::Model;
 use std::sync::Arc;

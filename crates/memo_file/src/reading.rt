@@ -25,7 +25,8 @@ use ith_text::Cursor;
 use machine_spec::MOST_STEPS;
 use memo_spec::{Format, Limit, Refusal};
 use page_store::PageMap;
-use release_core::{Core, History, Records, Setup};
+use release_core::Core;
+use run_history::{History, Records, Setup};
 use sha2::{Digest, Sha256};
 use std::alloc::Global;
 

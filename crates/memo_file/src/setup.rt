@@ -13,7 +13,7 @@ use elf_spec::MOST_ELF_BYTES;
 use ith_text::Cursor;
 use machine_spec::{Limits, MOST_FUEL, MOST_INPUT_BYTES, MOST_STEPS};
 use memo_spec::{Limit, Refusal};
-use release_core::Setup;
+use run_history::Setup;
 use std::alloc::Global;
 
 /// These limits, which are in range.

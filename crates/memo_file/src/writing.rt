@@ -19,7 +19,7 @@ use body::write_body;
 use memo_spec::MOST_MEMO_BYTES;
 use page_store::PageMap;
 use pool::{Pool, pool_of_history};
-use release_core::History;
+use run_history::History;
 use sha2::{Digest, Sha256};
 use sizes::size_of_memo;
 use std::alloc::{AllocError, AllocFailed, Global};

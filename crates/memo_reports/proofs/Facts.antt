@@ -13,7 +13,7 @@ use Rattle.history_spec.specs.History.{History}
 use Rattle.history_spec.specs.Facts.{Fact, fact_of, bare_fact, facts_from, facts, reads_in, read_slots, written_slots}
 use Rattle.history_spec.specs.Before.{fact_at, no_fact}
 use Rattle.round_spec.specs.Reach.{read_at, reads_of}
-use Rattle.release_core.specs.Records.{HaveThreads}
+use Rattle.run_history.specs.Records.{HaveThreads}
 
 -- what the fact and the record of a step have in common
 module _ {X : Type 0} (g : Fact → X) (k : Record → X) (reads : ℕ → ℕ → List ℕ)

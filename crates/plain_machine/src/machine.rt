@@ -15,7 +15,7 @@ use super::thunk::{ThunkResult, run};
 use machine_calls::{Hart, Written, asked, do_as_asked, first_harts, write_back};
 use machine_spec::{Asked, End, Status};
 use page_store::{PageMap, PageTable};
-use release_core::Setup;
+use run_history::Setup;
 use rv_isa::Turns;
 use std::alloc::{AllocError, Global};
 use std::marker::Model;

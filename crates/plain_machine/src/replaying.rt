@@ -6,7 +6,7 @@ ghost use Rattle.plain_machine.specs.Replaying.{IsReportOf, LacksEnd, IsOutcomeO
 use super::machine::PlainMachine;
 use machine_spec::End;
 use page_store::PageTable;
-use release_core::Setup;
+use run_history::Setup;
 use rv_isa::Turns;
 use std::alloc::{AllocError, Global};
 

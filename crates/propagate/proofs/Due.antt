@@ -7,7 +7,7 @@ use Rattle.std.proofs.lemmas.List.Elements.{All-from_recursion}
 use Rattle.thunk_spec.specs.Record.{Record}
 use Rattle.machine_spec.specs.Machine.{Machine, hart_of}
 use Rattle.history_spec.specs.History.{History, past_records, threads_of_records, is_of}
-use Rattle.release_core.specs.Records.{HaveThreads, AreOfRun}
+use Rattle.run_history.specs.Records.{HaveThreads, AreOfRun}
 use Rattle.history_spec.specs.Facts.{Fact, facts}
 use Rattle.history_spec.specs.Before.{fact_at}
 use Rattle.history_spec.specs.Keeping.{fact_thread, record_thread}

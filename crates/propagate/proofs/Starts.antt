@@ -9,7 +9,7 @@ use Rattle.elf_spec.specs.Image.{image_memory}
 use Rattle.machine_spec.specs.declared.TheConstants.{INPUT_PAGES}
 use Rattle.machine_spec.specs.Setup.{Setup, first, start_memory, header_page, input_page, input_memory, stack_memory}
 use Rattle.history_spec.specs.History.{IsSameProgram}
-use Rattle.release_core.proofs.Zeros.{page_of_part}
+use Rattle.run_history.proofs.Zeros.{page_of_part}
 use Rattle.propagate.specs.Alike.{is_marked, AreMarksOn}
 use Rattle.propagate.specs.Starts.{part_of}
 use Rattle.propagate.proofs.Alike.{same-size}

@@ -4,7 +4,7 @@ use Rattle.std.specs.Global.{Global}
 use Rattle.machine_spec.specs.Setup.{Setup, IsSetup, first, map_of}
 use Rattle.history_spec.specs.History.{History, applied_from, can_apply_from, IsMappedIn, IsMapped, past_records}
 use Rattle.history_spec.specs.Facts.{Fact}
-use Rattle.release_core.specs.Records.{AreOfRun}
+use Rattle.run_history.specs.Records.{AreOfRun}
 use Rattle.round_spec.specs.Rounds.{RoundState, history_of, none_in_flight}
 use Rattle.round_spec.specs.Due.{past_facts}
 use Rattle.round_spec.specs.Keeping.{IsInOrder, IsCounted}

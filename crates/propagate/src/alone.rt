@@ -18,8 +18,8 @@ ghost use Rattle.propagate.specs.Executing.{executed_by, Costs, Spares};
 
 use super::round::Round;
 use ith_host::{Gate, OpenGate};
-use release_core::{History, Setup};
 use round_spec::Pick;
+use run_history::{History, Setup};
 use rv_isa::Turns;
 use std::alloc::{AllocError, Global};
 use std::sync::Arc;

@@ -16,7 +16,7 @@ use super::inputs::mark_parts;
 use guest_call::Call;
 use machine_spec::INPUT_PAGES;
 use page_store::{PageTable, ReadPage};
-use release_core::{History, Setup};
+use run_history::{History, Setup};
 use rv_isa::Regs;
 use std::alloc::{AllocError, Global};
 use std::sync::Arc;

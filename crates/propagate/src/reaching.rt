@@ -5,13 +5,14 @@ ghost use Rattle.std.specs.Str.{bytes_eq};
 ghost use Rattle.memory_spec.specs.Pages.{page_of};
 ghost use Rattle.history_spec.specs.Facts.{facts, read_slots as slots_read};
 ghost use Rattle.round_spec.specs.Reach.{reads_of, changed_slots, changed, reached_count};
-ghost use Rattle.release_core.specs.Records.{AreOfRun};
+ghost use Rattle.run_history.specs.Records.{AreOfRun};
 ghost use Rattle.depend_graph.specs.Reaching.{slots_of_each};
 
 use super::round::{Round, graph_of};
 use depend_graph::{Graph, MOST_FACTS};
 use page_store::PageTable;
-use release_core::{Core, History, Setup};
+use release_core::Core;
+use run_history::{History, Setup};
 use std::alloc::{AllocError, Global};
 use thunk_record::Record;
 

@@ -14,7 +14,8 @@ use super::times::{PageVersion, Times, set};
 use depend_graph::Graph;
 use machine_spec::MOST_STEPS;
 use page_store::{PageTable, ReadPage};
-use release_core::{Core, History};
+use release_core::Core;
+use run_history::History;
 use std::alloc::{AllocError, Global};
 use thunk_record::{Compared, Record, has_read};
 

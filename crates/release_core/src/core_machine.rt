@@ -15,10 +15,10 @@ ghost use Rattle.machine_spec.specs.Whole.{IsWhole};
 
 use super::performing::{do_as_prepared, view_at, views_of};
 use super::put::put_bytes;
-use super::setup::Setup;
 use machine_calls::{Hart, Written, asked, first_harts, most_views, write_back};
 use machine_spec::{End, Status};
 use page_store::{PageMap, PageTable, committed};
+use run_history::Setup;
 use rv_isa::Regs;
 use std::alloc::{AllocError, Global};
 use std::marker::Model;

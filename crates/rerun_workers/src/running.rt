@@ -17,7 +17,7 @@ use super::watching::WatchedRound;
 use super::working::work_together;
 use ith_host::Gate;
 use propagate::{Round, run_alone_shown};
-use release_core::{History, Setup};
+use run_history::{History, Setup};
 use std::alloc::{AllocError, Global};
 use std::marker::Brand;
 use std::sync::{Arc, Wait};

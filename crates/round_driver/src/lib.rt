@@ -19,8 +19,8 @@ ghost use Rattle.propagate.specs.Consistency.{IsValid};
 
 use guest_call::THREADS;
 use propagate::{Committed, Round};
-use release_core::{History, Setup};
 use round_spec::Event;
+use run_history::{History, Setup};
 use rv_isa::Turns;
 use std::alloc::{AllocError, Global};
 use std::array;

@@ -4,9 +4,9 @@ ghost use Rattle.std.specs.Prelude.{◌≡◌, ◌<◌};
 
 use super::fixtures::{is_round, setup};
 use propagate::{Committed, Round, run_alone};
-use release_core::History;
 use round_driver::drive;
 use round_spec::{Event, Pick};
+use run_history::History;
 use rv_isa::Turns;
 use std::alloc::Global;
 use std::sync::Arc;

@@ -7,7 +7,7 @@ use super::rounds::setup_of;
 use guest_gen::{Generated, inputs_have_one_length, make};
 use machine_spec::{End, Limits};
 use plain_machine::{Outcome, ReplayError, replay};
-use release_core::Setup;
+use run_history::Setup;
 use rv_isa::Turns;
 use std::alloc::{AllocError, Global};
 use std::test::Fail;

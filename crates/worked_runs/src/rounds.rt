@@ -4,9 +4,9 @@ ghost use Rattle.std.specs.Prelude.{◌≡◌, ◌<◌};
 
 use machine_spec::{Limits, MOST_INPUT_BYTES};
 use propagate::Round;
-use release_core::{History, Setup};
 use round_driver::drive;
 use round_spec::Event;
+use run_history::{History, Setup};
 use rv_isa::Turns;
 use std::alloc::{AllocError, Global};
 use std::sync::Arc;

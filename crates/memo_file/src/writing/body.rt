@@ -12,7 +12,7 @@ use super::pool::Pool;
 use super::record::write_record;
 use crate::opening::{MAGIC, PROFILE, VERSION};
 use page_store::PageMap;
-use release_core::{History, Setup};
+use run_history::{History, Setup};
 use std::alloc::AllocError;
 
 /// Appends the number of some bytes, and then the bytes.

@@ -6,7 +6,7 @@ ghost use Rattle.memo_spec.specs.Encoding.{IsEncodable, has_page, with_page, ind
 ghost use Rattle.memo_file.specs.WritingPool.{pages_lent, bytes_read, places_from, StandsAt, IsIndexed, IsPoolOf};
 
 use page_store::ReadPage;
-use release_core::History;
+use run_history::History;
 use std::alloc::{AllocError, AllocFailed, Global};
 use std::collections::BTreeMap;
 

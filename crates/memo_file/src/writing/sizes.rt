@@ -6,7 +6,7 @@ ghost use Rattle.memo_file.specs.WritingMasks.{marks_in};
 ghost use Rattle.memo_file.specs.WritingSizes.{stored_size, record_size, memo_size, HasFewPages};
 
 use page_store::{MASK_WORDS, Mask, PAGE_SIZE, PageDelta};
-use release_core::History;
+use run_history::History;
 use thunk_record::Record;
 
 /// How many places are marked.

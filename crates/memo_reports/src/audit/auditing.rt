@@ -8,7 +8,8 @@ ghost use Rattle.history_spec.specs.Audit.{IsFirstFalse, IsFirstFalseFrom, turns
 use super::claims::claims_from;
 use super::executing::audit_together;
 use super::verdict::Verdict;
-use release_core::{Core, History, Records};
+use release_core::Core;
+use run_history::{History, Records};
 use std::alloc::{AllocError, Global};
 use std::thread::Threads;
 

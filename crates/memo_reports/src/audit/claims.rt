@@ -7,7 +7,8 @@ ghost use Rattle.machine_spec.specs.Step as step;
 ghost use Rattle.release_core.specs.Applying.{can_apply};
 ghost use Rattle.memo_reports.specs.Claims.{IsClaimOf, AreClaims};
 
-use release_core::{Core, Records};
+use release_core::Core;
+use run_history::Records;
 use std::alloc::{AllocError, Global};
 use std::sync::Arc;
 use thunk_record::{Job, Record};

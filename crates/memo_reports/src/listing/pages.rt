@@ -5,7 +5,7 @@ ghost use Rattle.memo_reports.specs.Listing.{address_text, addresses_of, reads_t
 
 use ith_text::hex8;
 use page_store::{PageDelta, ReadPage};
-use release_core::Setup;
+use run_history::Setup;
 use std::alloc::{AllocError, Global};
 
 /// The addresses of the pages of a setup, each at its slot.

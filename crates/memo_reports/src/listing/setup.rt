@@ -4,7 +4,7 @@ ghost use Rattle.std.specs.Prelude.{◌≡◌, ◌++◌, OnOk};
 ghost use Rattle.memo_reports.specs.Listing.{setup_lines};
 
 use crate::lines::number_line;
-use release_core::Setup;
+use run_history::Setup;
 use std::alloc::{AllocError, Global};
 
 /// Appends the lines of a setup, and of how many records there are.

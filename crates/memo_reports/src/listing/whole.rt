@@ -7,7 +7,7 @@ ghost use Rattle.memo_reports.specs.Listing.{listing, entry_lines};
 use super::entry::entry_line;
 use super::pages::addresses_of;
 use super::setup::setup_lines;
-use release_core::{History, Records};
+use run_history::{History, Records};
 use std::alloc::{AllocError, Global};
 
 /// The listing of a history: its setup in numbers, how many records it has, and a line for each.

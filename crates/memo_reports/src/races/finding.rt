@@ -8,7 +8,7 @@ use super::list::{RaceList, Races};
 use super::past::{Access, PagePast};
 use super::rows::FirstRaces;
 use super::steps::steps_of;
-use release_core::History;
+use run_history::History;
 use std::alloc::{AllocError, Global};
 
 /// No access to any of `pages` pages.

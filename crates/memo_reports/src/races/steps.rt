@@ -5,7 +5,7 @@ ghost use Rattle.machine_spec.specs.Setup.{map_of};
 ghost use Rattle.history_spec.specs.Facts.{Fact as StepFact, facts as facts_of};
 ghost use Rattle.history_spec.specs.Before.{is_in};
 ghost use Rattle.round_spec.specs.Reach as reach;
-ghost use Rattle.release_core.specs.Records.{AreOfRun};
+ghost use Rattle.run_history.specs.Records.{AreOfRun};
 ghost use Rattle.round_spec.specs.Sync.{sync_facts, seen_at};
 ghost use Rattle.memo_reports.specs.Steps.{AreSteps};
 
@@ -13,7 +13,7 @@ use super::touches::{Touch, touches_of};
 use depend_graph::{Clock, Fact, Graph};
 use guest_call::THREADS;
 use history_facts::facts;
-use release_core::History;
+use run_history::History;
 use std::alloc::{AllocError, Global};
 
 /// The part of a step that decides whether it races.

@@ -9,8 +9,8 @@ use super::list::Races;
 use crate::lines::append_number;
 use crate::listing::addresses_of;
 use ith_text::hex8;
-use release_core::History;
 use round_spec::Race;
+use run_history::History;
 use std::alloc::{AllocError, Global};
 
 /// Appends the letter of a step by whether it writes the page.

@@ -11,7 +11,7 @@ use Rattle.history_spec.specs.Facts.{Fact, facts, written_slots}
 use Rattle.history_spec.specs.Before.{fact_at, no_fact}
 use Rattle.history_spec.specs.Ancestors.{count_below}
 use Rattle.round_spec.specs.Reach.{reads_of}
-use Rattle.release_core.specs.Records.{AreOfRun}
+use Rattle.run_history.specs.Records.{AreOfRun}
 use Rattle.round_spec.specs.Sync.{seen_at}
 use Rattle.memo_reports.specs.declared.races.steps.Step.{Step}
 use Rattle.memo_reports.specs.Touches.{touches_in}

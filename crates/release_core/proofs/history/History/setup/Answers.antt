@@ -1,7 +1,0 @@
--- The slots are those of the map that was kept.
-use Rattle.std.proofs.Common.{subst}
-use Rattle.history_spec.specs.History.{IsMapped}
-use Rattle.release_core.proofs.history.History.setup.Goals as goal
-
-pub returns-clause-mapped : goal.returns-clause-mapped
-returns-clause-mapped c = subst IsMapped c.self.view_is c.self.invariant.mapped

@@ -1,0 +1,4 @@
+-- The files of lemmas of this crate.
+pub mod DataPages
+pub mod Placing
+pub mod Zeros

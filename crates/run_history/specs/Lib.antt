@@ -1,0 +1,4 @@
+-- The files of definitions of this crate.
+pub mod Setups
+pub mod Records
+pub mod Histories
