@@ -1,5 +1,5 @@
 -- A round that workers make, and the text that reports it.
-use Rattle.std.specs.Prelude.{◌≡◌, ℕ, ◌+◌, Bool, List}
+use Rattle.std.specs.Prelude.{◌≡◌, ℕ, ◌+◌, Bool, List, ◌∷◌}
 use Rattle.report_spec.specs.Report.{ReportData, report_text}
 use Rattle.rerun_spec.specs.declared.Asked.{Asked}
 use Rattle.rerun_spec.specs.Rounds.{Found, Round, Beginning, IsMade, IsWatched, round_on, after_round}
@@ -39,3 +39,11 @@ pub record IsMadeOn (workers : ℕ) (way : Form) (b : Beginning) (input : List �
     pub is_text : text ≡ round_text_by way (round_on b input found)
     pub is_exit : exit ≡ made_exits (round_on b input found)
     pub is_next : next ≡ after_round b input found
+
+-- The same on the first of some inputs, which leaves the others.
+pub record IsNextMade (workers : ℕ) (way : Form) (b : Beginning) (inputs rest : List (List ℕ)) (earlier later : ℕ)
+    (text : List ℕ) (exit : Bool) (next : Beginning) : Type 0
+  where
+    pub input : List ℕ
+    pub taken : inputs ≡ input ∷ rest
+    pub made : IsMadeOn workers way b input earlier later text exit next

@@ -16,11 +16,12 @@ ghost use Rattle.ith_commands.specs.Counting.{MakesRounds, GenerateSpends};
 ghost use Rattle.ith_commands.specs.Playing.{plan_said, CanBePlayed, CanBeEncoded, AreTheGenerated};
 
 use super::crew::Crew;
-use super::report::{Form, make_round};
+use super::report::Form;
+use super::rounds::make_next;
 use edit_list::{InputsError, inputs_of};
 use elf_load::LoadError;
 use guest_gen::{Generated, make};
-use ith_commands::{Plan, Status, from_scratch, print_text, take_input};
+use ith_commands::{Plan, Status, from_scratch, print_text};
 use ith_host::{Gate, Host};
 use ith_text::decimal;
 use ith_words::{GenerateLine, default_limits};
@@ -111,11 +112,23 @@ fn make_both<R: Threads + Wait + Sync, G: Gate + Sync>(
         beginning,
         mut inputs,
     } = prepare(alloc, number)?;
-    let input = take_input(&mut inputs)?;
-    let edited = take_input(&mut inputs)?;
     let mut last = None;
-    let first = make_round(alloc, beginning, input, crew, Form::Line, &mut last)?;
-    let second = make_round(alloc, first.next, edited, crew, Form::Line, &mut last)?;
+    let first = make_next(
+        alloc,
+        beginning,
+        &mut inputs,
+        crew,
+        Form::Line,
+        &mut last,
+    )?;
+    let second = make_next(
+        alloc,
+        first.next,
+        &mut inputs,
+        crew,
+        Form::Line,
+        &mut last,
+    )?;
     let text = text_of(alloc, number, first.text.as_slice(), second.text.as_slice())?;
     Ok(Lines {
         text,

@@ -5,13 +5,13 @@ ghost use Rattle.std.specs.Arc.{arc_value};
 ghost use Rattle.machine_spec.specs.declared.TheConstants.{MOST_INPUT_BYTES};
 ghost use Rattle.round_spec.specs.Rounds.{history_of};
 ghost use Rattle.propagate.specs.Consistency.{IsOfMap};
+ghost use Rattle.rerun_spec.specs.Reports.{is_exit};
 ghost use Rattle.ith_commands.specs.Playing.{beginning_said};
 ghost use Rattle.ith_top.specs.Making.{data_of_made, text_by, IsMadeOn};
 
 use super::crew::{Crew, MadeRound};
 use ith_commands::{Beginning, is_exit};
 use ith_host::Gate;
-use propagate::Round;
 use rerun_spec::Asked;
 use round_report::{Digested, ReportData, short, text};
 use run_history::History;
@@ -87,15 +87,53 @@ fn text_of(
 }
 
 /// The history that the next round is based on.
-fn resulting_history(alloc: Global, round: Round) -> Result<Arc<History>, AllocError>
-    requires { IsOfMap round.past round.setup }
-    ensures { IfOk result (λ shared. arc_value shared ≡ history_of round) }
+fn resulting_history(alloc: Global, made: MadeRound) -> Result<Arc<History>, AllocError>
+    requires { IsOfMap made.round.past made.round.setup }
+    ensures { IfOk result (λ shared. arc_value shared ≡ history_of made.round) }
 {
-    let Some(history) = round.into_history() else {
+    let Some(history) = made.round.into_history() else {
         unreachable!()
     };
     let shared = Arc::new(alloc, history)?;
     Ok(shared)
+}
+
+/// What is reported of a round, and the history that it leaves.
+#[derive(Drop)]
+struct Reported {
+    /// The text that reports it.
+    text: Vec<u8>,
+    /// Whether it ended by exit.
+    exited: bool,
+    /// Its history.
+    history: Arc<History>,
+}
+
+/// Reports a round that was made, and takes its history.
+fn report(
+    alloc: Global,
+    number: usize,
+    asked: Asked,
+    made: MadeRound,
+    form: Form,
+    last: &mut Option<Digested>,
+) -> Result<Reported, AllocError>
+    requires { IsOfMap made.round.past made.round.setup }
+    ensures text { IfOk result (λ reported.
+        reported.text.items ≡ text_by form number (data_of_made asked made)) }
+    ensures exited { IfOk result (λ reported.
+        reported.exited ≡ is_exit made.round.machine.ending) }
+    ensures history { IfOk result (λ reported.
+        arc_value reported.history ≡ history_of made.round) }
+{
+    let text = text_of(alloc, number, asked, &made, form, last);
+    let exited = is_exit(made.round.end());
+    let history = resulting_history(alloc, made);
+    Ok(Reported {
+        text: text?,
+        exited,
+        history: history?,
+    })
 }
 
 /// Makes a round from this beginning, on this input, by the workers of the crew, and its text.
@@ -129,9 +167,11 @@ pub fn make_round<R: Threads + Wait + Sync, G: Gate + Sync>(
     } = beginning;
     let start = setup.with_input(input)?;
     let made = crew.make(alloc, number as u64, start, past, asked.progress)?;
-    let text = text_of(alloc, number, asked, &made, form, last)?;
-    let exited = is_exit(made.round.end());
-    let history = resulting_history(alloc, made.round)?;
+    let Reported {
+        text,
+        exited,
+        history,
+    } = report(alloc, number, asked, made, form, last)?;
     let next = Beginning {
         number: number + 1,
         past: Some(history),

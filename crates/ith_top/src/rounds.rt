@@ -1,19 +1,52 @@
 //! The rounds of a command line, one after the other.
 
-ghost use Rattle.std.specs.Prelude.{IfOk, IfErr};
+ghost use Rattle.std.specs.Prelude.{◌≡◌, ◌+◌, ◌^◌, ◌<◌, ◌≤◌, length, option_map, IfOk, IfErr};
 ghost use Rattle.std.specs.Arc.{arc_value};
+ghost use Rattle.propagate.specs.Consistency.{IsOfMap};
+ghost use Rattle.rerun_spec.specs.Inputs.{AreShort};
 ghost use Rattle.ith_host.specs.World.{NoneFell, AsksNothing};
 ghost use Rattle.ith_commands.specs.Refusals.{IsPlayedInPart};
-ghost use Rattle.ith_commands.specs.Playing.{plan_said, CanBePlayed, IsPlayed};
+ghost use Rattle.ith_commands.specs.Playing.{beginning_said, plan_said, CanBePlayed, IsPlayed};
+ghost use Rattle.ith_top.specs.Making.{IsNextMade};
 
 use super::crew::Crew;
 use super::report::{Form, ReportedRound, make_round};
+use edit_list::Inputs;
 use ith_commands::{Beginning, Plan, Status, print_text, take_input};
 use ith_host::{Gate, Host};
+use round_report::Digested;
 use run_history::History;
-use std::alloc::Global;
+use std::alloc::{AllocError, Global};
 use std::sync::{Arc, Wait};
 use std::thread::Threads;
+
+/// Makes a round from this beginning, on the next of some inputs, by the workers of the crew, and its text.
+///
+/// # Errors
+///
+/// An error if the host's memory ran out.
+pub fn make_next<R: Threads + Wait + Sync, G: Gate + Sync>(
+    alloc: Global,
+    beginning: Beginning,
+    inputs: &mut Inputs,
+    crew: &mut Crew<'_, R, G>,
+    form: Form,
+    last: &mut Option<Digested>,
+) -> Result<ReportedRound, AllocError>
+    requires some { 0 < length inputs.old }
+    requires short { AreShort inputs.old }
+    requires same { IsOfMap (option_map arc_value beginning.past) beginning.setup }
+    requires few { beginning.number + length inputs.old < 2 ^ 64 }
+    ensures played { IfOk result (λ played. IsNextMade crew.old.workers form
+        (beginning_said beginning) inputs.old inputs.new crew.old.work.turns crew.new.work.turns
+        played.text.items played.exited (beginning_said played.next)) }
+    ensures made { IfOk result (λ _. crew.new.work.rounds ≡ crew.old.work.rounds + 1) }
+    ensures one { crew.new.work.rounds ≤ crew.old.work.rounds + 1 }
+    ensures workers { crew.new.workers ≡ crew.old.workers }
+{
+    let input = take_input(inputs)?;
+    make_round(alloc, beginning, input, crew, form, last)
+}
 
 /// The outcome of the rounds of a command line.
 #[derive(Drop)]
@@ -48,11 +81,10 @@ pub fn make_rounds<R: Threads + Wait + Sync, H: Host, G: Gate + Sync>(
     let mut last = None;
     let mut exits = true;
     for place in 0..inputs.len() {
-        let input = take_input(&mut inputs)?;
-        let ReportedRound { text, exited, next } = make_round(
+        let ReportedRound { text, exited, next } = make_next(
             alloc,
             beginning,
-            input,
+            &mut inputs,
             crew,
             Form::Report,
             &mut last,

@@ -12,8 +12,8 @@ use Rattle.ith_commands.specs.Playing.{beginning_said}
 use Rattle.ith_top.proofs.Making.{made_on, round_map}
 use Rattle.ith_top.proofs.report.make_round.Goals as goal
 
-pub resulting_history-requires : goal.resulting_history-requires
-resulting_history-requires g c =
+pub report-requires : goal.report-requires
+report-requires g c =
     let start : c.in_ok-start.start ≡ with_input c.args.beginning.setup c.args.input.items = search rules in
     round_map (beginning_said c.args.beginning) c.args.input.items c.in_ok-made.made.round
     (c.in_ok-made.ensures.setup ∙ start) c.in_ok-made.ensures.past c.requires.same
@@ -38,14 +38,14 @@ returns-clause-played g c =
       turns = cost.0;
     } in
     made_on c.args.crew.now.workers c.args.form begins c.args.input.items w f
-    c.args.crew.now.work.turns c.make.new.self.work.turns c.in_ok-text.text.items c.is_exit-exited.result _
+    c.args.crew.now.work.turns c.make.new.self.work.turns c.in_ok-text.field-0.text.items c.in_ok-text.field-0.exited _
     setup c.in_ok-made.ensures.past c.in_ok-made.ensures.stands refl is
     (λ yes. c.in_ok-made.ensures.watched yes) cost.2 cost.1
-    c.in_ok-text.ensures
-    (c.is_exit-exited.ensures ∙ ap is_exit c.end.ensures.ending)
+    c.in_ok-text.ensures.text
+    c.in_ok-text.ensures.exited
     (ap (λ (h : History). record {
       number = c.args.beginning.number + 1;
       past = Some h;
       setup = c.args.beginning.setup;
       asked = c.args.beginning.asked;
-    }) c.in_ok-history.ensures)
+    }) c.in_ok-text.ensures.history)

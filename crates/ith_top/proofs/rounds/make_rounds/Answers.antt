@@ -9,7 +9,7 @@ use Rattle.ith_commands.specs.Playing.{beginning_said}
 use Rattle.ith_top.specs.declared.report.Form.TheVariants as form
 use Rattle.ith_commands.proofs.Worlds.{none_fell_same}
 use Rattle.ith_top.proofs.Making.{left_map}
-use Rattle.ith_top.proofs.Going.{going_start, going_next, going_played, going_cut, going_unprinted, none_left, short_first, short_rest}
+use Rattle.ith_top.proofs.Going.{going_start, going_next, going_played, going_cut, going_unprinted, none_left, short_rest}
 use Rattle.ith_top.proofs.rounds.make_rounds.Goals as goal
 
 pub loop-place-init : goal.loop-place-init
@@ -27,93 +27,64 @@ loop-place-init g c =
       workers = refl;
     }
 
-pub returns-in_err-input-clause-refused : goal.returns-in_err-input-clause-refused
-returns-in_err-input-clause-refused g c =
+pub returns-in_err-text-clause-refused : goal.returns-in_err-text-clause-refused
+returns-in_err-text-clause-refused g c =
     let w = g.H.Host.world in
+    let made = c.loop-place.invariant.made in let one = c.make_next.ensures.one in
+    let left = c.loop-place.invariant.left in let more = c.loop-place-test.true in
     let p = err_from_is_err_and c.from_residual.result c.from_residual.ensures.1 in
     rw (p.1, p.2)
     (going_cut (beginning_said c.args.plan.beginning) c.args.crew.now.workers c.args.plan.inputs (w c.args.host.now)
     (w c.loop-place.host) c.args.crew.now.work.turns c.loop-place.crew.work.turns
     (beginning_said c.loop-place.beginning) c.loop-place.inputs c.loop-place.exits c.args.crew.now.work
-    c.loop-place.crew.work c.loop-place.invariant.going
-    (let made = c.loop-place.invariant.made in omega arith) (let made = c.loop-place.invariant.made in omega arith))
-
-pub make_round-requires-clause-short : goal.make_round-requires-clause-short
-make_round-requires-clause-short g c = λ lifetimes bounds.
-    let taken : c.loop-place.inputs ≡ c.in_ok-input.input.items ∷ c.take_input.new.inputs =
-    c.in_ok-input.ensures.taken in
-    short_first c.in_ok-input.input.items c.take_input.new.inputs (subst AreShort taken c.loop-place.invariant.short)
-
-pub make_round-requires-clause-same : goal.make_round-requires-clause-same
-make_round-requires-clause-same g c = λ lifetimes bounds. c.loop-place.invariant.map
-
-pub make_round-requires-clause-few : goal.make_round-requires-clause-few
-make_round-requires-clause-few g c = λ lifetimes bounds.
-    let fewer : length c.loop-place.inputs ≡ length (c.in_ok-input.input.items ∷ c.take_input.new.inputs) =
-    ap length (c.in_ok-input.ensures.taken) in
-    let few = c.loop-place.invariant.few in omega arith
-
-pub returns-in_err-text-clause-refused : goal.returns-in_err-text-clause-refused
-returns-in_err-text-clause-refused g c =
-    let w = g.H.Host.world in
-    let made = c.loop-place.invariant.made in let one = c.make_round.ensures.one in
-    let fewer : length c.loop-place.inputs ≡ length (c.in_ok-input.input.items ∷ c.take_input.new.inputs) =
-    ap length (c.in_ok-input.ensures.taken) in
-    let p = err_from_is_err_and c.from_residual-in_err-text.result c.from_residual-in_err-text.ensures.1 in
-    rw (p.1, p.2)
-    (going_cut (beginning_said c.args.plan.beginning) c.args.crew.now.workers c.args.plan.inputs (w c.args.host.now)
-    (w c.loop-place.host) c.args.crew.now.work.turns c.loop-place.crew.work.turns
-    (beginning_said c.loop-place.beginning) c.loop-place.inputs c.loop-place.exits c.args.crew.now.work
-    c.make_round.new.crew.work c.loop-place.invariant.going (omega arith) (omega arith))
+    c.make_next.new.crew.work c.loop-place.invariant.going (omega arith) (omega arith))
 
 pub returns-in_err-print_text-clause-refused : goal.returns-in_err-print_text-clause-refused
 returns-in_err-print_text-clause-refused g c =
-    let w = g.H.Host.world in let made = c.loop-place.invariant.made in let one = c.make_round.ensures.one in
-    let taken : c.loop-place.inputs ≡ c.in_ok-input.input.items ∷ c.take_input.new.inputs =
-    c.in_ok-input.ensures.taken in
-    let fewer : length c.loop-place.inputs ≡ length (c.in_ok-input.input.items ∷ c.take_input.new.inputs) = ap length taken in
+    let w = g.H.Host.world in let made = c.loop-place.invariant.made in let one = c.make_next.ensures.one in
+    let next = c.in_ok-text.ensures.played in
+    let fewer = ap length next.taken in
     let p = err_from_is_err_and c.from_residual-in_err-print_text.result c.from_residual-in_err-print_text.ensures.1 in
     rw (p.1, p.2)
     (going_unprinted (beginning_said c.args.plan.beginning) c.args.crew.now.workers c.args.plan.inputs
     (w c.args.host.now) (w c.loop-place.host) (w c.print_text.new.host)
-    c.args.crew.now.work.turns c.loop-place.crew.work.turns c.make_round.new.crew.work.turns
-    (beginning_said c.loop-place.beginning) c.in_ok-input.input.items c.take_input.new.inputs c.loop-place.exits
+    c.args.crew.now.work.turns c.loop-place.crew.work.turns c.make_next.new.crew.work.turns
+    (beginning_said c.loop-place.beginning) next.input c.make_next.new.inputs c.loop-place.exits
     c.in_ok-text.field-0.text.items c.in_ok-text.field-0.exited (beginning_said c.in_ok-text.field-0.next)
-    c.args.crew.now.work c.make_round.new.crew.work c.in_err-print_text.field-0.0
-    (rw taken at c.loop-place.invariant.going)
-    (rw c.loop-place.invariant.workers at c.in_ok-text.ensures.played) (omega arith) (omega arith)
+    c.args.crew.now.work c.make_next.new.crew.work c.in_err-print_text.field-0.0
+    (rw next.taken at c.loop-place.invariant.going)
+    (rw c.loop-place.invariant.workers at next.made) (omega arith) (omega arith)
     (rw (← c.as_slice.ensures.value) c.in_err-print_text.ensures.refused))
 
 pub loop-place-preserved : goal.loop-place-preserved
 loop-place-preserved g c =
     let w = g.H.Host.world in
-    let taken : c.loop-place.inputs ≡ c.in_ok-input.input.items ∷ c.take_input.new.inputs =
-    c.in_ok-input.ensures.taken in
-    let fewer : length c.loop-place.inputs ≡ length (c.in_ok-input.input.items ∷ c.take_input.new.inputs) = ap length taken in
+    let played = c.in_ok-text.ensures.played in
+    let fewer = ap length played.taken in
     let left : c.loop-place.place + length c.loop-place.inputs ≡ c.len-place-end.result = c.loop-place.invariant.left in
     let now : Beginning = beginning_said c.loop-place.beginning in
     let next : Beginning = beginning_said c.in_ok-text.field-0.next in
-    let is_next = c.in_ok-text.ensures.played.is_next in
+    let is_next = played.made.is_next in
     record {
       going = going_next (beginning_said c.args.plan.beginning) c.args.crew.now.workers c.args.plan.inputs
           (w c.args.host.now) (w c.loop-place.host) (w c.print_text.new.host)
-          c.args.crew.now.work.turns c.loop-place.crew.work.turns c.make_round.new.crew.work.turns now next
-          c.in_ok-input.input.items c.take_input.new.inputs c.loop-place.exits
+          c.args.crew.now.work.turns c.loop-place.crew.work.turns c.make_next.new.crew.work.turns now next
+          played.input c.make_next.new.inputs c.loop-place.exits
           c.in_ok-text.field-0.text.items c.in_ok-text.field-0.exited
-          (rw taken at c.loop-place.invariant.going)
-          (rw c.loop-place.invariant.workers at c.in_ok-text.ensures.played)
+          (rw played.taken at c.loop-place.invariant.going)
+          (rw c.loop-place.invariant.workers at played.made)
           (rw (← c.as_slice.ensures.value) c.in_ok-print_text.ensures.printed) c.in_ok-print_text.ensures.counts
           c.in_ok-print_text.ensures.asked;
       left = omega arith;
-      short = short_rest c.in_ok-input.input.items c.take_input.new.inputs (subst AreShort taken c.loop-place.invariant.short);
+      short = short_rest played.input c.make_next.new.inputs (subst AreShort played.taken c.loop-place.invariant.short);
       few = let number : next.number ≡ now.number + 1 = ap (λ (b : Beginning). b.number) is_next in
           let few = c.loop-place.invariant.few in omega arith;
-      map = left_map c.loop-place.crew.workers form.Report now c.in_ok-input.input.items
-          c.loop-place.crew.work.turns c.make_round.new.crew.work.turns c.in_ok-text.field-0.text.items
-          c.in_ok-text.field-0.exited next c.in_ok-text.ensures.played;
+      map = left_map c.loop-place.crew.workers form.Report now played.input
+          c.loop-place.crew.work.turns c.make_next.new.crew.work.turns c.in_ok-text.field-0.text.items
+          c.in_ok-text.field-0.exited next played.made;
       some = λ none. absurd (let no = ap (λ (b : Beginning). b.past) is_next in cc);
       made = let made = c.loop-place.invariant.made in let one = c.in_ok-text.ensures.made in omega arith;
-      workers = c.make_round.ensures.workers ∙ c.loop-place.invariant.workers;
+      workers = c.make_next.ensures.workers ∙ c.loop-place.invariant.workers;
     }
 
 pub returns-clause-played : goal.returns-clause-played
