@@ -113,22 +113,8 @@ fn make_both<R: Threads + Wait + Sync, G: Gate + Sync>(
         mut inputs,
     } = prepare(alloc, number)?;
     let mut last = None;
-    let first = make_next(
-        alloc,
-        beginning,
-        &mut inputs,
-        crew,
-        Form::Line,
-        &mut last,
-    )?;
-    let second = make_next(
-        alloc,
-        first.next,
-        &mut inputs,
-        crew,
-        Form::Line,
-        &mut last,
-    )?;
+    let first = make_next(alloc, beginning, &mut inputs, crew, Form::Line, &mut last)?;
+    let second = make_next(alloc, first.next, &mut inputs, crew, Form::Line, &mut last)?;
     let text = text_of(alloc, number, first.text.as_slice(), second.text.as_slice())?;
     Ok(Lines {
         text,
