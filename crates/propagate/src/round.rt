@@ -343,11 +343,12 @@ impl Round {
         ensures honest { IsSound self.past self.setup → is_some self.machine.ending ≡ true
             → IsHonest (history_of self) }
     {
-        if !self.has_same_map() {
-            return None;
-        }
+        let same_map = self.has_same_map();
         let has_end = self.core.ended().is_some();
         let (setup, records) = self.into_steps();
+        if !same_map {
+            return None;
+        }
         let history = History::new(setup, records);
         if has_end {
             Some(history.known_coherent())
