@@ -101,10 +101,11 @@ fn run_anew<G: Gate>(
         (λ r. ComparesNone unfinished.round.setup unfinished.round.past r.effort.compared) }
 {
     let ClosedRound { round, effort, .. } = unfinished;
-    if round.stopped() {
+    let stopped = round.stopped();
+    let (setup, past) = round.into_setup();
+    if stopped {
         return Err(AllocError);
     }
-    let (setup, past) = round.into_setup();
     run_by_first(alloc, setup, past, workers, gate, effort)
 }
 
