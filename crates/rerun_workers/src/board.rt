@@ -8,7 +8,7 @@
 //! last call. A worker that has to wait releases the lock and waits in one operation, so it misses no notification of
 //! what came after it asked. A worker that is held at its gate asks and looks only after it has passed the gate.
 
-ghost use Rattle.std.specs.Prelude.{◌≡◌, ◌≢◌, ◌+◌, ◌<◌, ◌≤◌, All, length, map, sum, sum_by, vec_len, vec_capacity, Some, [], IfOk};
+ghost use Rattle.std.specs.Prelude.{◌≡◌, ◌≢◌, ◌+◌, ◌<◌, ◌≤◌, All, length, map, sum, sum_by, vec_len, vec_capacity, true, Some, is_some, [], IfOk};
 ghost use Rattle.std.specs.Arc.{arc_value};
 ghost use Rattle.machine_spec.specs.Setup.{first};
 ghost use Rattle.history_spec.specs.History.{History};
@@ -16,6 +16,7 @@ ghost use Rattle.round_spec.specs.Rounds.{opening};
 ghost use Rattle.round_spec.specs.Unedited.{IsUnedited};
 ghost use Rattle.rerun_workers.specs.declared.locked.Task.TheVariants as task;
 ghost use Rattle.rerun_workers.specs.Making.{IsClosed, ComparesNone};
+ghost use Rattle.rerun_workers.specs.Watching.{IsCounting};
 ghost use Rattle.rerun_workers.specs.Passes.{held};
 ghost use Rattle.rerun_workers.specs.Tickets.{IsTicketFor, IsRunOfTicket};
 ghost use Rattle.rerun_workers.specs.Locking.{BeginsIn, BeginsNothing, begun_by, IsReady, ReturnsRun, steps_by};
@@ -213,12 +214,12 @@ impl<J: Naming> Board<J> {
         ensures nothing { IfOk result (λ made. All (λ pass. pass.steps ≡ 0) made.1.items) }
     {
         let WatchedRound { round, mut counter } = watched;
-        let seats = watches_of(alloc, &mut counter, watches)?;
+        let seats = watches_of(alloc, &mut counter, watches);
         let Blanks { ledger, issuer } = blanks;
         let (book, all) = ledger.open::<J>();
         let locked = Locked::new(round, book, Some(counter), issuer);
         let (board, passes) = Board::opened(rt, alloc, locked, all, workers)?;
-        Ok((board, passes, seats))
+        Ok((board, passes, seats?))
     }
 
     /// The board of a round under its lock, with room to list the steps of each worker when it is closed, and a pass
@@ -236,9 +237,10 @@ impl<J: Naming> Board<J> {
         ensures count { IfOk result (λ made. vec_len made.1 ≡ workers) }
         ensures nothing { IfOk result (λ made. All (λ pass. pass.steps ≡ 0) made.1.items) }
     {
+        let lock = Mutex::new(locked);
         let (passes, worker_steps) = passes_with_room(rt, alloc, all, workers)?;
         let board = Board {
-            lock: Mutex::new(locked),
+            lock,
             changed: Condvar::new(),
             worker_steps,
         };
@@ -361,23 +363,8 @@ impl<J: Naming> Board<J> {
         ensures turns { result.effort.turns
             ≡ sum_by (λ pass. pass.effort.turns) passes.items }
     {
-        let Board {
-            lock,
-            worker_steps,
-            ..
-        } = self;
-        let Locked {
-            round,
-            mut book,
-            ..
-        } = lock.into_inner();
-        let (mut all, worker_steps, effort) = gather(passes, worker_steps);
-        book.audit(&mut all);
-        ClosedRound {
-            round,
-            worker_steps,
-            effort,
-        }
+        let (worked, _) = self.into_closed(passes);
+        worked
     }
 
     /// As `close`, and takes all watches back too. Also returns how many steps the round has, by one last look at the
@@ -395,6 +382,27 @@ impl<J: Naming> Board<J> {
         ensures seen { All
             (λ watch. watch.reader.seen ≤ length result.0.round.schedule) watches.items }
     {
+        let (worked, counter) = self.into_closed(passes);
+        let Some(counter) = counter else {
+            unreachable!()
+        };
+        let number = last_number(counter, watches);
+        (worked, number)
+    }
+
+    /// Takes all passes back, and returns what workers made of the round, and the counter of its steps, if it is
+    /// watched.
+    fn into_closed(self, passes: Vec<Pass<J>>) -> (ClosedRound, Option<Counter>)
+        requires all { vec_len passes ≡ J.parts }
+        requires workers { (vec_len passes ≡ J.workers) × (0 < vec_len passes) }
+        ensures closed { IsClosed J.setup J.past result.0.round result.0.worker_steps.items
+            result.0.effort.turns result.0.effort.compared }
+        ensures worker_steps { result.0.worker_steps.items ≡ map (λ pass. pass.steps) passes.items }
+        ensures turns { result.0.effort.turns
+            ≡ sum_by (λ pass. pass.effort.turns) passes.items }
+        ensures counter { IsCounting J.table (length result.0.round.schedule) result.1 }
+        ensures watched { 0 < J.watches → is_some result.1 ≡ true }
+    {
         let Board {
             lock,
             worker_steps,
@@ -408,15 +416,11 @@ impl<J: Naming> Board<J> {
         } = lock.into_inner();
         let (mut all, worker_steps, effort) = gather(passes, worker_steps);
         book.audit(&mut all);
-        let Some(counter) = counter else {
-            unreachable!()
-        };
-        let number = last_number(counter, watches);
         let worked = ClosedRound {
             round,
             worker_steps,
             effort,
         };
-        (worked, number)
+        (worked, counter)
     }
 }

@@ -1,6 +1,6 @@
 //! A round that several workers make.
 
-ghost use Rattle.std.specs.Prelude.{◌≡◌, ◌-◌, ◌<◌, ◌≤◌, ◌∷◌, [], Some, length, replicate, option_map, IfOk};
+ghost use Rattle.std.specs.Prelude.{◌≡◌, ◌-◌, ◌<◌, ◌≤◌, ◌∷◌, [], Some, length, vec_len, set, replicate, option_map, IfOk};
 ghost use Rattle.std.specs.Arc.{arc_value};
 ghost use Rattle.history_spec.specs.History.{History as OldHistory};
 ghost use Rattle.round_spec.specs.Rounds.{opening};
@@ -23,15 +23,12 @@ use std::marker::Brand;
 use std::sync::{Arc, Wait};
 use std::thread::Threads;
 
-/// How many steps each worker made, if the first worker made all of them.
-#[tactic(auto, using(crate::proofs::Made::first_set))]
-fn first_makes(alloc: Global, steps: u64, workers: u32) -> Result<Vec<u64>, AllocError>
-    requires { 1 ≤ workers }
-    ensures { IfOk result (λ worker_steps. worker_steps.items ≡ steps ∷ replicate (workers - 1) 0) }
+/// Lists these steps as the first worker's.
+fn list_first(worker_steps: &mut Vec<u64>, steps: u64)
+    requires { 0 < vec_len worker_steps.old }
+    ensures { worker_steps.new.items ≡ set worker_steps.old.items 0 steps }
 {
-    let mut worker_steps = vec![in alloc; 0; workers as usize]?;
     worker_steps[0] = steps;
-    Ok(worker_steps)
 }
 
 /// A round of which the first of `workers` workers makes all steps. Its turns and compared pages are added to `effort`,
@@ -58,9 +55,10 @@ fn run_by_first<G: Gate>(
     ensures spares { IfOk result
         (λ r. ComparesNone setup (option_map arc_value past) r.effort.compared) }
 {
+    let mut worker_steps = vec![in alloc; 0; workers as usize]?;
     let Effort { turns, compared } = &mut effort;
     let round = run_alone_shown(alloc, setup, past, turns, compared, gate)?;
-    let worker_steps = first_makes(alloc, round.schedule().len() as u64, workers)?;
+    list_first(&mut worker_steps, round.schedule().len() as u64);
     Ok(ClosedRound {
         round,
         worker_steps,
@@ -101,10 +99,11 @@ fn run_anew<G: Gate>(
         (λ r. ComparesNone unfinished.round.setup unfinished.round.past r.effort.compared) }
 {
     let ClosedRound { round, effort, .. } = unfinished;
-    if round.stopped() {
+    let stopped = round.stopped();
+    let (setup, past) = round.into_setup();
+    if stopped {
         return Err(AllocError);
     }
-    let (setup, past) = round.into_setup();
     run_by_first(alloc, setup, past, workers, gate, effort)
 }
 

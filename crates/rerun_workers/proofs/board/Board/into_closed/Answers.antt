@@ -1,6 +1,6 @@
--- Answers to the goals that the check of `Board::close_watched` leaves open.
+-- Answers to the goals that the check of `Board::into_closed` leaves open.
 use Rattle.std.proofs.Common.{sym, ◌∙◌}
-use Rattle.rerun_workers.proofs.board.Board.close_watched.Goals as goal
+use Rattle.rerun_workers.proofs.board.Board.into_closed.Goals as goal
 
 pub returns-clause-closed : goal.returns-clause-closed
 returns-clause-closed g c =
