@@ -1,5 +1,5 @@
 -- The plan of a command line, from the contents of its files.
-use Rattle.std.proofs.Common.{◌≡◌, ◌<◌, ◌≤◌, ◌^◌, ℕ, List, [], ◌∷◌, Vec, length, refl, sym, ap, ◌∙◌, subst, arith}
+use Rattle.std.proofs.Common.{◌≡◌, ◌<◌, ◌≤◌, ◌^◌, ◌==◌, ℕ, true, false, List, [], ◌∷◌, Vec, length, refl, sym, ap, ◌∙◌, subst, arith}
 use Rattle.std.specs.Global.{Global}
 use Rattle.std.specs.List.{AllByRecursion}
 use Rattle.std.proofs.lemmas.List.{length-map}
@@ -23,6 +23,26 @@ use Rattle.propagate.specs.Consistency.{IsOfMap}
 use Rattle.propagate.proofs.Mapped.{same_image}
 use Rattle.rerun_spec.specs.Encoded.{IsEncodedPast}
 use Rattle.ith_commands.specs.Playing.{CanBePlayed, CanBeEncoded}
+
+-- the inputs of a rerun, without the first one if there is a list
+pub rerun_edited :
+    (first : List ℕ) (vectors : List (Vec ℕ Global)) (inputs later : List (List ℕ)) (input : List ℕ)
+    → AreInputs first (bytes_of_each vectors) inputs → inputs ≡ input ∷ later → (length vectors == 0) ≡ false
+    → AreRerunInputs first (bytes_of_each vectors) later
+rerun_edited first [] inputs later input made is some = absurd (let no : true ≡ false = some in cc)
+rerun_edited first (v ∷ vectors) inputs later input made is some =
+    let whole : AreInputs first (bytes_of_each (v ∷ vectors)) (input ∷ later) =
+    subst (AreInputs first (bytes_of_each (v ∷ vectors))) is made in
+    whole.1
+
+pub rerun_unedited :
+    (first : List ℕ) (vectors : List (Vec ℕ Global)) (inputs : List (List ℕ))
+    → AreInputs first (bytes_of_each vectors) inputs → length vectors ≡ 0
+    → AreRerunInputs first (bytes_of_each vectors) inputs
+rerun_unedited first (v ∷ vectors) inputs made none = absurd (omega (arith, none))
+rerun_unedited first [] [] made none = absurd made
+rerun_unedited first [] (input ∷ []) made none = ap (λ (i : List ℕ). i ∷ []) made.0
+rerun_unedited first [] (input ∷ next ∷ inputs) made none = absurd made.1
 
 -- inputs that edit lists make of bytes are bytes
 made_bytes : (lists : List (List ℕ)) (input : List ℕ) (inputs : List (List ℕ)) → AreBytes input

@@ -169,10 +169,9 @@ fn edit_again<H: Host>(
     ensures quiet { Quiet (H.world host.old) (H.world host.new) }
 {
     let mut inputs = edit(alloc, host, first, lists, names)?;
-    if lists.is_empty() {
-        return Ok(inputs);
+    if !lists.is_empty() {
+        take_input(&mut inputs)?;
     }
-    inputs.take_next()?;
     Ok(inputs)
 }
 
@@ -199,27 +198,24 @@ fn with_limits(alloc: Global, history: &History, limits: Limits) -> Result<Setup
     setup.with(input, limits)
 }
 
-/// The plan of rounds with these limits on these inputs, of which the first is based on a memo.
+/// The beginning of a round with these limits that is based on a memo.
 fn after_memo(
     alloc: Global,
     history: History,
-    inputs: Inputs,
     limits: Limits,
     asked: Asked,
-) -> Result<Plan, AllocError>
-    ensures beginning { IfOk result (λ plan. beginning_said plan.beginning
+) -> Result<Beginning, AllocError>
+    ensures { IfOk result (λ beginning. beginning_said beginning
         ≡ begin.after_memo history limits asked) }
-    ensures inputs { IfOk result (λ plan. plan.inputs ≡ inputs) }
 {
-    let setup = with_limits(alloc, &history, limits)?;
+    let setup = with_limits(alloc, &history, limits);
     let past = Arc::new(alloc, history)?;
-    let beginning = Beginning {
+    Ok(Beginning {
         number: 1,
         past: Some(past),
-        setup,
+        setup: setup?,
         asked,
-    };
-    Ok(Plan { beginning, inputs })
+    })
 }
 
 /// The plan of rounds from scratch on these inputs.
@@ -294,5 +290,6 @@ pub fn prepare_rerun<H: Host>(
         reach: line.reach,
         progress: line.progress,
     };
-    Ok(after_memo(alloc, history, inputs, limits, asked)?)
+    let beginning = after_memo(alloc, history, limits, asked)?;
+    Ok(Plan { beginning, inputs })
 }

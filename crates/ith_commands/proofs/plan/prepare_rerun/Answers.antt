@@ -54,10 +54,10 @@ returns-in_err-inputs-clause-refused g c =
     c.in_err-inputs.ensures.quiet)
     c.in_ok-memo.ensures.memo c.in_ok-memo.ensures.lists is why)
 
-pub returns-in_err-after_memo-clause-refused : goal.returns-in_err-after_memo-clause-refused
-returns-in_err-after_memo-clause-refused g c =
+pub returns-in_err-beginning-clause-refused : goal.returns-in_err-beginning-clause-refused
+returns-in_err-beginning-clause-refused g c =
     let w = g.H.Host.world in let a = w c.args.host.now in let b = w c.recall.new.host in
-    let p = err_from_is_err_and c.from_residual-in_err-after_memo.result c.from_residual-in_err-after_memo.ensures.1 in
+    let p = err_from_is_err_and c.from_residual-in_err-beginning.result c.from_residual-in_err-beginning.ensures.1 in
     rw (p.1, p.2)
     (cut_ends _ a (w c.edit_again.new.host)
     (reads_then _ a b (w c.edit_again.new.host)
@@ -67,21 +67,21 @@ returns-in_err-after_memo-clause-refused g c =
 pub returns-clause-plan : goal.returns-clause-plan
 returns-clause-plan g c =
     let w = g.H.Host.world in let files = c.in_ok-memo.field-0 in let a = w c.args.host.now in
-    let b = w c.recall.new.host in let h = c.in_ok-history.history in let p = plan_said c.in_ok-after_memo.field-0 in
+    let b = w c.recall.new.host in let h = c.in_ok-history.history in
+    let p = plan_said (record { beginning = c.in_ok-beginning.beginning; inputs = c.in_ok-inputs.inputs }) in
     let line = rerun_said c.args.line.now in let lists = bytes_of_each files.lists.items in
     let limits = c.limits_for-limits.result in
     let asked = asked_by c.args.line.now.reach c.args.line.now.progress in
     let is : IsMemoOf files.memo.items h = rw (← c.as_slice.ensures.value) c.in_ok-history.ensures.history in
-    let edited : AreRerunInputs h.setup.input lists c.in_ok-inputs.inputs = search rules in
-    let made : AreRerunInputs h.setup.input lists p.inputs = rw c.in_ok-after_memo.ensures.inputs edited in
+    let made : AreRerunInputs h.setup.input lists p.inputs = search rules in
     let begins : p.beginning ≡ after_memo h (limits_for line h) asked =
-    c.in_ok-after_memo.ensures.beginning ∙ ap (λ (l : Limits). after_memo h l asked) c.limits_for-limits.ensures.value in
+    c.in_ok-beginning.ensures ∙ ap (λ (l : Limits). after_memo h l asked) c.limits_for-limits.ensures.value in
     record {
       is = rerun_plan line a files.memo.items lists h p c.in_ok-memo.ensures.memo c.in_ok-memo.ensures.lists is begins made;
-      playable = rerun_playable files.memo.items lists h limits asked p is c.in_ok-after_memo.ensures.beginning
+      playable = rerun_playable files.memo.items lists h limits asked p is c.in_ok-beginning.ensures
           (few_lists files.lists) made;
       encoded = rerun_encoded files.memo.items lists h limits asked p is c.limits_for-limits.ensures.within
-          c.in_ok-after_memo.ensures.beginning made;
+          c.in_ok-beginning.ensures made;
       reads = reads_then _ a b (w c.edit_again.new.host)
           (reads_then _ a (w c.read_rerun_files.new.host) b c.in_ok-memo.ensures.reads c.in_ok-history.ensures.quiet)
           c.in_ok-inputs.ensures.quiet;
