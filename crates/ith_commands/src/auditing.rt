@@ -50,11 +50,10 @@ pub fn audit<R: Threads + Sync, H: Host>(
     ensures { Ends (Some (Audits (audit_said line.now)))
         (H.world host.old) (H.world host.new) (status_in result) }
 {
-    let audited = {
+    let (verdict, text) = {
         let history = remember(alloc, host, line.memo)?;
-        verdict_of(rt, alloc, &history, line.workers)
+        verdict_of(rt, alloc, &history, line.workers)?
     };
-    let (verdict, text) = audited?;
     print_text(alloc, host, text.as_slice())?;
     match verdict.first {
         None => Ok(true),

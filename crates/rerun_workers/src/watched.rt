@@ -87,10 +87,10 @@ pub(super) fn run_watched<J: Naming + Send + Sync, R: Threads + Wait + Sync, G: 
     ensures few { IfOk result (λ r. length r.1.items ≤ MOST_LOOKS + 1) }
     ensures last { IfOk result (λ r. last_or None r.1.items ≡ Some (length r.0.round.schedule)) }
 {
-    let numbers = Vec::with_capacity(alloc, MOST_LOOKS + 1)?;
     let (board, passes, mut seats) = Board::<J>::with_watches(
         rt, alloc, watched, workers, 1, blanks,
     )?;
+    let numbers = Vec::with_capacity(alloc, MOST_LOOKS + 1)?;
     let seat = seats.remove(0);
     let (seat, mut numbers, passes) = work_watched(rt, &board, passes, gate, seat, numbers);
     seats.push_reserved(seat);
