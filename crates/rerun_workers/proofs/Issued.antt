@@ -1,7 +1,8 @@
 -- Tickets stay those of the steps that are in flight.
-use Rattle.std.proofs.Common.{◌≡◌, ◌≢◌, ℕ, Bool, true, false, cond, List, set, Option, Some, None, IfSome, refl, ap, sym, ◌∙◌, subst, inl, inr}
+use Rattle.std.proofs.Common.{◌≡◌, ◌≢◌, ◌<◌, ℕ, Bool, true, false, cond, List, length, set, Option, Some, None, IfSome, refl, ap, sym, ◌∙◌, subst, inl, inr}
 use Rattle.std.proofs.lemmas.Bool.{cases_eq}
-use Rattle.std.proofs.lemmas.List.{get_or-set_other}
+use Rattle.std.proofs.lemmas.List.{get_or-set_same, get_or-set_other, length-set}
+use Rattle.std.proofs.lemmas.Option.{slice_get_within, slice_get-get_or, get_or_from_slice_get}
 use Rattle.std.specs.Prelude.{⊤}
 use Rattle.std.specs.Arc.{arc_value}
 use Rattle.std.specs.List.{slice_get}
@@ -27,7 +28,6 @@ use Rattle.round_spec.specs.Keeping.{IsInOrder, IsHeld}
 use Rattle.round_spec.proofs.Happening.{CanBegin, happens-kept, can_begin-parts, none_in_flight-none, still_in_flight, open-none}
 use Rattle.round_spec.proofs.Mapping.{happens-frame}
 use Rattle.propagate.specs.Committing.{IsOfStep}
-use Rattle.propagate.proofs.Entries.{get-same, get-other}
 use Rattle.propagate.proofs.Executing.{run-record}
 use Rattle.rerun_workers.specs.Locking.{given_up}
 use Rattle.rerun_workers.specs.Tickets.{AreIssued, IsLastOf, IsRunOfTicket}
@@ -172,6 +172,24 @@ flag-taken :
 flag-taken w t u true other is = sym (get_or-set_other w.in_flight t u true false other) ∙ is
 flag-taken w t u false other is = is
 
+-- the job that was set, and any other
+set-here :
+    (jobs : List (Option Job)) (t : ℕ) (o p : Option Job) → slice_get (set jobs t o) t ≡ Some p → p ≡ o
+set-here jobs t o p at =
+    let inside : t < length jobs =
+    subst (λ (n : ℕ). t < n) (length-set jobs t o) (slice_get_within (set jobs t o) t p at) in
+    sym (get_or_from_slice_get (set jobs t o) t p o at) ∙ get_or-set_same jobs t o o inside
+
+set-elsewhere :
+    (jobs : List (Option Job)) (t u : ℕ) (o p : Option Job) → u ≢ t → slice_get (set jobs t o) u ≡ Some p
+    → slice_get jobs u ≡ Some p
+set-elsewhere jobs t u o p other at =
+    let inside : u < length jobs =
+    subst (λ (n : ℕ). u < n) (length-set jobs t o) (slice_get_within (set jobs t o) u p at) in
+    slice_get-get_or jobs u o inside
+    ∙ ap (λ (x : Option Job). Some x)
+    (sym (get_or-set_other jobs t u o o other) ∙ get_or_from_slice_get (set jobs t o) u p o at)
+
 -- A ticket for the step that was taken.
 take-last :
     (w : RoundState) (t : ℕ) (b : Bool) (job : Job) (jobs : List (Option Job)) (o : Option Job)
@@ -183,12 +201,12 @@ take-last w t b job jobs o before own is u j in_flight at =
     elim (cases_eq u t) [
       | inl same ↦
           let there : Some j ≡ o =
-          get-same jobs t o (Some j) (subst (λ (k : ℕ). slice_get (set jobs t o) k ≡ Some (Some j)) same at) in
+          set-here jobs t o (Some j) (subst (λ (k : ℕ). slice_get (set jobs t o) k ≡ Some (Some j)) same at) in
           let one : j ≡ job = is j (sym there) in
           machine-taken w t u b j
           (subst (λ (k : ℕ). IsJobOf w.machine k j) (sym same) (subst (IsJobOf w.machine t) (sym one) own))
       | inr other ↦
-          let there : slice_get jobs u ≡ Some (Some j) = sym (get-other jobs u t o other) ∙ at in
+          let there : slice_get jobs u ≡ Some (Some j) = set-elsewhere jobs t u o (Some j) other at in
           machine-taken w t u b j (before u j (flag-taken w t u b other in_flight) there)
     ]
 
