@@ -14,53 +14,19 @@ use Rattle.machine_spec.specs.Machine.{Machine, hart_of, is_ready}
 use Rattle.machine_spec.specs.Whole.{IsWhole}
 use Rattle.machine_spec.specs.Setup.{Setup, IsSetup, first, map_of}
 use Rattle.machine_spec.specs.Step.{apply, fits}
-use Rattle.machine_spec.proofs.Beginning.{IsWhole-first}
 use Rattle.machine_spec.proofs.Harts.{ready-below}
 use Rattle.history_spec.specs.History.{History, applied_from, can_apply_from, is_coherent}
-use Rattle.history_spec.proofs.Applying.{apply-frame, apply-whole}
+use Rattle.history_spec.proofs.Applying.{apply-frame}
 use Rattle.history_spec.proofs.Mapped.{first-map}
 use Rattle.history_spec.proofs.Numbers.{first-number, apply-number}
 use Rattle.history_spec.specs.Facts.{Fact, ask_of, acted, effect_of, objects_of, served_by, written_slots, read_by, fact_of}
 use Rattle.history_spec.proofs.After.{apply-length, apply-objects}
-use Rattle.release_core.specs.Applying.{can_apply}
+use Rattle.release_core.specs.Applying.{can_apply, machine_at}
+use Rattle.release_core.proofs.Histories.{coherent-can, coherent-whole}
 use Rattle.machine_calls.proofs.Asking.{few_numbers}
 use Rattle.history_facts.specs.declared.outline.Outline.{Outline}
-use Rattle.history_facts.specs.Outlining.{machine_at, numbered, IsOutlineOf, MayBeApplied}
-use Rattle.history_facts.proofs.Applying.{ready, can-make}
-
--- the machine after the record at a place
-applied-more :
-    (m : Machine) (rs : List Record) (k : ℕ) (r : Record) → slice_get rs k ≡ Some r
-    → applied_from m (take (suc k) rs) ≡ apply (applied_from m (take k rs)) r
-applied-more m [] k r at = cc
-applied-more m (x ∷ rs) zero r at = let same : x ≡ r = cc in ap (apply m) same
-applied-more m (x ∷ rs) (suc k) r at = applied-more (apply m x) rs k r at
-
-pub machine-more :
-    (h : History) (k : ℕ) (r : Record) → slice_get h.records k ≡ Some r
-    → machine_at h (k + 1) ≡ apply (machine_at h k) r
-machine-more h k r at =
-    let next : k + 1 ≡ suc k = omega arith in
-    ap (machine_at h) next ∙ applied-more (first h.setup) h.records k r at
-
--- if each record can be applied, so can the one at a place, on a whole machine
-can-at :
-    (m : Machine) (rs : List Record) (k : ℕ) (r : Record) → can_apply_from m rs ≡ true → slice_get rs k ≡ Some r
-    → can_apply (applied_from m (take k rs)) r ≡ true
-can-at m [] k r can at = cc
-can-at m (x ∷ rs) zero r can at =
-    let same : x ≡ r = cc in subst (λ (y : Record). can_apply m y ≡ true) same (and_parts _ _ can).0
-can-at m (x ∷ rs) (suc k) r can at = can-at (apply m x) rs k r (and_parts _ _ can).1 at
-
-whole-at :
-    (m : Machine) (rs : List Record) (k : ℕ) → IsWhole m → can_apply_from m rs ≡ true
-    → IsWhole (applied_from m (take k rs))
-whole-at m [] zero whole can = whole
-whole-at m [] (suc k) whole can = whole
-whole-at m (x ∷ rs) zero whole can = whole
-whole-at m (x ∷ rs) (suc k) whole can =
-    let parts = and_parts (is_none m.ending && fits m x) (can_apply_from (apply m x) rs) can in
-    whole-at (apply m x) rs k (apply-whole m x whole (can-make m x parts.0)) parts.1
+use Rattle.history_facts.specs.Outlining.{numbered, IsOutlineOf, MayBeApplied}
+use Rattle.history_facts.proofs.Applying.{ready}
 
 none-some : (e : Option End) → is_none e ≡ true → is_some e ≡ false
 none-some None none = refl
@@ -85,15 +51,6 @@ last-at m (x ∷ y ∷ rs) zero r can ended at =
 last-at m (x ∷ y ∷ rs) (suc k) r can ended at =
     let same : eqb (suc k + 1) (length (x ∷ y ∷ rs)) ≡ eqb (k + 1) (length (y ∷ rs)) = grind (arith, nat_tests) in
     same ∙ last-at (apply m x) (y ∷ rs) k r (and_parts (is_none m.ending && fits m x) _ can).1 ended at
-
-pub coherent-can :
-    (h : History) (k : ℕ) (r : Record) → is_coherent h ≡ true → slice_get h.records k ≡ Some r
-    → can_apply (machine_at h k) r ≡ true
-coherent-can h k r coherent at = can-at (first h.setup) h.records k r (and_parts _ _ coherent).0 at
-
-coherent-whole : (h : History) (k : ℕ) → IsSetup h.setup → is_coherent h ≡ true → IsWhole (machine_at h k)
-coherent-whole h k valid coherent =
-    whole-at (first h.setup) h.records k (IsWhole-first h.setup valid) (and_parts _ _ coherent).0
 
 pub coherent-applied :
     (h : History) (k : ℕ) (r : Record) (o : Outline)

@@ -1,17 +1,11 @@
 -- What the facts of steps need of the machine after the records before them.
-use Rattle.std.specs.Prelude.{◌≡◌, ℕ, true, List, [], ◌∷◌, ◌++◌, length, take, slice_index}
+use Rattle.std.specs.Prelude.{◌≡◌, ℕ, true, List, [], ◌∷◌, ◌++◌, length, slice_index}
 use Rattle.guest_call.specs.declared.thread_number.TheConstants.{THREADS}
 use Rattle.thunk_spec.specs.Record.{Record}
 use Rattle.machine_spec.specs.Machine.{Machine, hart_of}
-use Rattle.machine_spec.specs.Setup.{first}
 use Rattle.machine_spec.specs.Whole.{IsWhole}
-use Rattle.history_spec.specs.History.{History, applied_from}
 use Rattle.release_core.specs.Applying.{can_apply}
 use Rattle.history_facts.specs.declared.outline.Outline.{Outline}
-
--- The machine after the records of a history before a place.
-abbrev pub machine_at : History → ℕ → Machine
-machine_at h place = applied_from (first h.setup) (take place h.records)
 
 -- The page map and the objects of a machine, how many threads it has, and how many steps each of them has made.
 pub record IsOutlineOf (m : Machine) (outline : Outline) : Type 0 where

@@ -10,3 +10,9 @@ pub mod OneText
 pub mod Explained
 pub mod Permitting
 pub mod Replayed
+pub mod Finding
+pub mod Entries
+pub mod Searches
+pub mod Steps
+pub mod ReasonsSoFar
+pub mod Alike

@@ -8,3 +8,5 @@ pub mod Ends
 pub mod Counting
 pub mod Playing
 pub mod Refusals
+pub mod Searching
+pub mod Walking

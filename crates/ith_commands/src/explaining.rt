@@ -14,12 +14,13 @@ ghost use Rattle.ith_commands.specs.Playing.{plan_said, CanBePlayed, IsPrepared,
 
 use super::outside::print_text;
 use super::plan::{Beginning, Plan, prepare_rerun, take_input};
+use super::reasons::reasons;
 use super::status::Status;
 use edit_list::Inputs;
 use ith_host::Host;
 use ith_words::{ExplainLine, RerunLine};
 use propagate::{Round, run_alone};
-use round_report::why::{reasons, text};
+use round_report::why::text;
 use run_history::Setup;
 use rv_isa::Turns;
 use std::alloc::{AllocError, Global};

@@ -11,6 +11,7 @@ mod keeping;
 mod outside;
 mod plan;
 mod racing;
+mod reasons;
 mod replaying;
 mod showing;
 mod status;

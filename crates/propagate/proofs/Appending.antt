@@ -1,27 +1,19 @@
 -- When a record may be appended, and the round after an event.
-use Rattle.std.proofs.Common.{◌≡◌, ◌<◌, ◌≤◌, ℕ, zero, suc, Bool, true, false, not, ◌||◌, eqb, List, [], ◌∷◌, length, count_by, Option, Some, None, is_some, is_none, refl, ap, sym, ◌∙◌, arith}
+use Rattle.std.proofs.Common.{◌≡◌, ◌<◌, ◌≤◌, ℕ, zero, suc, Bool, true, false, not, ◌||◌, eqb, List, [], ◌∷◌, ◌++◌, length, count_by, Option, Some, None, is_some, is_none, refl, ap, sym, ◌∙◌, arith}
 use Rattle.std.proofs.lemmas.Bool.{and_parts}
 use Rattle.std.proofs.lemmas.Bool.Decides.{nat_tests}
 use Rattle.thunk_spec.specs.Record.{Record, fits_at}
 use Rattle.machine_spec.specs.declared.states.End.{End}
 use Rattle.machine_spec.specs.Machine.{Machine, hart_of, is_ready}
 use Rattle.machine_spec.specs.Step.{fits, can_step}
-use Rattle.machine_spec.specs.Whole.{IsWhole}
-use Rattle.machine_spec.proofs.Harts.{ready-below}
 use Rattle.history_spec.specs.History.{threads_of_records}
 use Rattle.history_spec.proofs.Truth.{past-of}
-use Rattle.release_core.specs.Applying.{can_apply}
-use Rattle.round_spec.specs.Marks.{record_for, is_fitting, fits_next}
+use Rattle.round_spec.specs.Marks.{record_for, fits_next}
 use Rattle.round_spec.specs.Rounds.{RoundState, is_finished, is_in_flight_of, can_begin, can_take, can_reuse}
 use Rattle.round_spec.specs.Keeping.{IsInOrder, IsCounted}
 use Rattle.round_spec.proofs.Happening.{CanBegin, can_begin-parts}
+use Rattle.round_spec.proofs.Picks.{below-32}
 use Rattle.propagate.proofs.Keeping.{record_count}
-
-pub few-harts : (m : Machine) → IsWhole m → length m.harts ≤ 32
-few-harts m whole = omega (arith, whole.tied.threads, whole.tied.kept.few_threads)
-
-pub below-32 : (m : Machine) (t : ℕ) → IsWhole m → is_ready (hart_of m t).status ≡ true → t < 32
-below-32 m t whole ready = omega (arith, few-harts m whole, ready-below m.harts t ready)
 
 pub in_flight-below : (in_flight : List Bool) (t : ℕ) → is_in_flight_of in_flight t ≡ true → t < length in_flight
 in_flight-below [] t is = cc
@@ -100,22 +92,13 @@ reusable w t r kept counted can there =
       thread = thread;
     }
 
--- it may be applied
-
-pub can-apply : (w : RoundState) (r : Record) → is_none w.machine.ending ≡ true → fits w.machine r ≡ true
-    → can_apply w.machine r ≡ true
-can-apply w r none fit = rw (none, fit) refl
-
-pub reuse-can :
-    (w : RoundState) (t : ℕ) (r : Record) → can_reuse w t ≡ true → record_for w.past w.machine t ≡ Some r
-    → can_apply w.machine r ≡ true
-reuse-can w t r can there =
-    let parts = and_parts (can_begin w t) (fits_next w.past w.machine t) can in
-    let begins : CanBegin w t = can_begin-parts w t parts.0 in
-    can-apply w r begins.none (ap (is_fitting w.machine) (sym there) ∙ parts.1)
-
 pub take-ready : (w : RoundState) (t : ℕ) → can_take w t ≡ true → is_ready (hart_of w.machine t).status ≡ true
 take-ready w t can =
     let begins : CanBegin w t =
     can_begin-parts w t (and_parts (can_begin w t) (not (fits_next w.past w.machine t)) can).0 in
     begins.ready
+
+-- one more entry
+pub length-push : {A : Type 0} (xs : List A) (x : A) → length (xs ++ x ∷ []) ≡ suc (length xs)
+length-push [] x = refl
+length-push (y ∷ xs) x = ap suc (length-push xs x)

@@ -44,7 +44,8 @@ use Rattle.propagate.specs.Committing.{CanCommit, IsOfStep}
 use Rattle.propagate.specs.Executing.{executed_by, Costs, Spares, IsPartWay}
 use Rattle.propagate.proofs.Choosing.{pick-over}
 use Rattle.propagate.proofs.Keeping.{record_count, executed-more}
-use Rattle.propagate.proofs.Appending.{below-32, take-ready}
+use Rattle.round_spec.proofs.Picks.{below-32}
+use Rattle.propagate.proofs.Appending.{take-ready}
 
 -- the record of a thread's own next step
 

@@ -12,8 +12,8 @@ use Rattle.machine_spec.specs.Step.{fits, can_step}
 use Rattle.machine_spec.specs.Whole.{IsWhole}
 use Rattle.history_spec.specs.History.{History, applied_from, past_records, is_coherent, is_numbered}
 use Rattle.history_spec.proofs.Alike.{fits-parts}
-use Rattle.history_facts.specs.Outlining.{machine_at}
-use Rattle.history_facts.proofs.Outlining.{coherent-can}
+use Rattle.release_core.specs.Applying.{machine_at}
+use Rattle.release_core.proofs.Histories.{coherent-can}
 use Rattle.round_spec.specs.Rounds.{RoundState, is_finished, none_in_flight}
 use Rattle.round_spec.specs.Due.{place_in, is_due}
 use Rattle.round_spec.specs.Choice.{is_any_in_flight, choice_by}
@@ -22,7 +22,7 @@ use Rattle.round_spec.proofs.Choosing.{any-nobody}
 use Rattle.round_spec.proofs.Coherent.{coherent-next, coherent-next-on, coherent-over}
 use Rattle.round_spec.proofs.Following.{next-chosen}
 use Rattle.propagate.specs.declared.picking.Candidate.{Candidate}
-use Rattle.propagate.specs.Alike.{IsLike, ContinuesAs, IsAsMarked}
+use Rattle.known_pages.specs.Alike.{IsLike, ContinuesAs, IsAsMarked}
 use Rattle.propagate.specs.Choosing.{leader_of, free_below}
 use Rattle.propagate.specs.Consistency.{IsInStep}
 use Rattle.propagate.proofs.Appending.{going-none}

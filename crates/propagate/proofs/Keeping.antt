@@ -22,10 +22,10 @@ use Rattle.round_spec.proofs.Leaving.{leaves-honest}
 use Rattle.round_spec.proofs.Executed.{executed-records}
 use Rattle.history_spec.specs.Facts.{Fact}
 use Rattle.release_core.specs.Applying.{can_apply}
-use Rattle.propagate.specs.Consistency.{IsApplied, IsOnMap, IsValid, IsConsistent, AreFactsOf, IsKnown, IsRight, IsFound, KnowsEnough}
-use Rattle.propagate.specs.Alike.{IsAsBefore}
-use Rattle.propagate.specs.declared.versions.Versions.{Versions}
-use Rattle.propagate.specs.Versions.{AreRight}
+use Rattle.propagate.specs.Consistency.{IsOnMap, IsValid, IsConsistent, AreFactsOf, IsKnown, IsRight, IsFound, KnowsEnough}
+use Rattle.known_pages.specs.Alike.{IsApplied, IsAsBefore}
+use Rattle.known_pages.specs.declared.versions.Versions.{Versions}
+use Rattle.known_pages.specs.Versions.{AreRight}
 use Rattle.propagate.proofs.Mapped.{opening-on_map, happens-on_map}
 
 -- as many records as entries

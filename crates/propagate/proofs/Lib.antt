@@ -6,10 +6,5 @@ pub mod Keeping
 pub mod Choosing
 pub mod Appending
 pub mod Executing
-pub mod Alike
 pub mod Making
 pub mod InStep
-pub mod Starts
-pub mod Entries
-pub mod Passing
-pub mod KnownPages

@@ -16,15 +16,17 @@ use Rattle.round_spec.specs.Rounds.{RoundState, can_begin, can_take, can_reuse, 
 use Rattle.round_spec.proofs.Conditions.{happens-take, happens-take_not, happens-reuse, happens-give_back, commit-applies}
 use Rattle.round_spec.proofs.Happening.{CanBegin, can_begin-parts, happens-kept}
 use Rattle.propagate.specs.Consistency.{IsConsistent, IsFound, KnowsEnough}
-use Rattle.propagate.specs.Alike.{IsAsBefore}
-use Rattle.propagate.specs.declared.versions.Versions.{Versions}
-use Rattle.propagate.specs.Versions.{AreRight, unboxed}
+use Rattle.known_pages.specs.Alike.{IsAsBefore}
+use Rattle.known_pages.specs.declared.versions.Versions.{Versions}
+use Rattle.known_pages.specs.Versions.{AreRight, unboxed}
 use Rattle.propagate.specs.Committing.{CanCommit, Continues, picked_at}
 use Rattle.propagate.proofs.Keeping.{valid_consistent, valid-happens, kept-happens, kept-more, kept-found, applied-round, knows-in_flight}
 use Rattle.propagate.proofs.Mapped.{happens-on_map}
-use Rattle.propagate.proofs.Alike.{as-before-same}
-use Rattle.propagate.proofs.KnownPages.{right-same, right-either}
-use Rattle.propagate.proofs.Appending.{CanAppend, fitting-append, Reusable, reusable, going-none, can-apply, reuse-can, below-32, take-ready}
+use Rattle.known_pages.proofs.Alike.{as-before-same}
+use Rattle.known_pages.proofs.KnownPages.{right-same, right-either}
+use Rattle.round_spec.proofs.Picks.{below-32}
+use Rattle.known_pages.proofs.Alike.{can-apply, reuse-can}
+use Rattle.propagate.proofs.Appending.{CanAppend, fitting-append, Reusable, reusable, going-none, take-ready}
 
 -- a round with one more entry, its record and when it was picked
 abbrev pub appended : RoundState → Record → Bool → ℕ → RoundState

@@ -1,18 +1,25 @@
 -- A round stays on the page map of its setup.
-use Rattle.std.proofs.Common.{◌≡◌, Bool, true, false, List, ◌++◌, All, length, Option, Some, None, ap, sym, ◌∙◌, subst, refl}
+use Rattle.std.proofs.Common.{◌≡◌, Bool, true, false, List, ◌++◌, All, length, Option, Some, None, Vec, ap, sym, ◌∙◌, subst, refl}
 use Rattle.std.proofs.lemmas.List.{append_cancel_right}
 use Rattle.std.proofs.lemmas.List.Elements.{All-from_recursion}
 use Rattle.std.specs.Bool.{OnTrue}
-use Rattle.memory_spec.specs.Pages.{Mapped}
+use Rattle.std.specs.Global.{Global}
+use Rattle.memory_spec.specs.Pages.{Mapped, Memory}
 use Rattle.thunk_spec.specs.Thunk.{Frame}
 use Rattle.elf_spec.specs.Image.{image_pages}
-use Rattle.machine_spec.specs.Setup.{Setup, map_of, data_pages}
+use Rattle.machine_spec.specs.Setup.{Setup, first, map_of, data_pages}
+use Rattle.machine_spec.specs.Whole.{IsWhole}
+use Rattle.machine_spec.proofs.Beginning.{IsMemory-start}
 use Rattle.history_spec.specs.History.{History, IsSound, IsMappedIn, IsMapped, past_records}
 use Rattle.history_spec.proofs.Mapped.{first-map}
 use Rattle.round_spec.specs.declared.events.Event.{Event}
 use Rattle.round_spec.specs.Rounds.{RoundState, opening, happens, history_of}
 use Rattle.round_spec.proofs.Leaving.{same-happens}
 use Rattle.round_spec.proofs.Mapping.{happens-frame, event-mapped}
+use Rattle.known_pages.specs.Alike.{ContinuesAs, IsAsMarked}
+use Rattle.known_pages.specs.Versions.{IsComparable}
+use Rattle.known_pages.proofs.Alike.{first-memory}
+use Rattle.known_pages.proofs.Passing.{first-fuel}
 use Rattle.propagate.specs.Consistency.{IsOfMap, IsOnMap}
 
 pub opening-on_map : (setup : Setup) (past : Option History) → IsOnMap (opening setup past)
@@ -97,3 +104,23 @@ of_map-mapped w h false m n on there mapped first second equal = tt
 pub sound_map : (past : Option History) (s : Setup) → IsSound past s → IsOfMap past s
 sound_map None s sound = tt
 sound_map (Some h) s sound = same_image h.setup s (ap image_pages sound.1)
+
+-- a round that continued as its history did can be compared with it
+pub comparable :
+    (w : RoundState) (h : History) (marks : Vec Bool Global)
+    → IsAsMarked w (Some marks) → w.past ≡ Some h → IsWhole w.machine → w.machine.frame ≡ (first w.setup).frame
+    → h.setup.fuel ≡ w.setup.fuel → IsOfMap w.past w.setup
+    → IsComparable w h
+comparable w h marks was past whole framed fuel map =
+    let goes : ContinuesAs h marks.items w = was h past in
+    record {
+      valid = goes.valid;
+      coherent = goes.coherent;
+      fuel = ap (λ (f : Frame). f.fuel) framed ∙ first-fuel w.setup ∙ sym fuel;
+      size =
+          whole.memory.count
+          ∙ ap (λ (f : Frame). length f.map) framed ∙ ap (λ (m : List _). length m) (first-map w.setup)
+          ∙ ap (λ (m : List _). length m) (sym (subst (λ (p : Option History). IsOfMap p w.setup) past map))
+          ∙ sym (IsMemory-start h.setup).count
+          ∙ ap (λ (m : Memory). length m) (sym (first-memory h.setup));
+    }

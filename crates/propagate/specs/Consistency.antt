@@ -2,7 +2,7 @@
 use Rattle.std.specs.Prelude.{◌≡◌, ◌≤◌, ◌*◌, ℕ, ⊤, Bool, true, false, List, All, length, Option, Some, None, is_some, Vec}
 use Rattle.std.specs.Global.{Global}
 use Rattle.machine_spec.specs.Setup.{Setup, IsSetup, first, map_of}
-use Rattle.history_spec.specs.History.{History, applied_from, can_apply_from, IsMappedIn, IsMapped, past_records}
+use Rattle.history_spec.specs.History.{History, IsMappedIn, IsMapped, past_records}
 use Rattle.history_spec.specs.Facts.{Fact}
 use Rattle.run_history.specs.Records.{AreOfRun}
 use Rattle.round_spec.specs.Rounds.{RoundState, history_of, none_in_flight}
@@ -10,9 +10,9 @@ use Rattle.round_spec.specs.Due.{past_facts}
 use Rattle.round_spec.specs.Keeping.{IsInOrder, IsCounted}
 use Rattle.round_spec.specs.Schedules.{IsBySchedule}
 use Rattle.round_spec.specs.Instructions.{executed_instructions}
-use Rattle.propagate.specs.declared.versions.Versions.{Versions}
-use Rattle.propagate.specs.Alike.{IsAsBefore}
-use Rattle.propagate.specs.Versions.{AreRight}
+use Rattle.known_pages.specs.declared.versions.Versions.{Versions}
+use Rattle.known_pages.specs.Alike.{IsApplied, IsAsBefore}
+use Rattle.known_pages.specs.Versions.{AreRight}
 
 -- The history that a round of a setup is based on, if there is one, has the setup's page map.
 abbrev pub IsOfMap : Option History → Setup → Type 0
@@ -23,11 +23,6 @@ IsOfMap (Some h) setup = map_of h.setup ≡ map_of setup
 pub record IsOnMap (w : RoundState) : Type 0 where
   pub frame : w.machine.frame.map ≡ map_of w.setup
   pub mapped : All (IsMappedIn (length (map_of w.setup))) (past_records w.past) → IsMapped (history_of w)
-
--- The machine of a round is the one after the records of its entries, each of which fits where it is applied.
-pub record IsApplied (w : RoundState) : Type 0 where
-  pub machine : w.machine ≡ applied_from (first w.setup) w.records
-  pub can : can_apply_from (first w.setup) w.records ≡ true
 
 -- What holds of every round: its setup may be run, its machine has the setup's page map and fuel, it is in order, its
 -- counts are right, and it is where its schedule leads.

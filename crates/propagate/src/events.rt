@@ -13,10 +13,9 @@ ghost use Rattle.propagate.specs.Appending.{trail, Appends};
 ghost use Rattle.propagate.specs.Committing.{CanCommit, Commits, Continues, IsOfStep, entries_of, picked_at};
 ghost use Rattle.propagate.specs.Consistency.{IsValid};
 
-use super::marks::{is_in_place, marks_after, marks_if};
 use super::round::{Round, find_facts};
-use super::versions::{after_execution, after_reuse, known_or};
 use guest_call::THREADS;
+use known_pages::{after_execution, after_reuse, is_in_place, known_or, marks_after, marks_if};
 use machine_spec::MOST_STEPS;
 use release_core::Core;
 use report_spec::Entry;

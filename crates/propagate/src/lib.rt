@@ -5,13 +5,9 @@
 
 mod alone;
 mod events;
-mod inputs;
-mod marks;
 mod picking;
 mod reaching;
 mod round;
-mod times;
-mod versions;
 
 pub use alone::{run_alone, run_alone_shown};
 pub use events::Committed;

@@ -10,16 +10,16 @@ ghost use Rattle.round_spec.specs.Rounds.{is_finished, is_free_in, can_begin, ca
 ghost use Rattle.round_spec.specs.Due.{is_due, place_in};
 ghost use Rattle.round_spec.specs.Choice.{is_any_in_flight, choice_by, pick_of};
 ghost use Rattle.round_spec.specs.Replaying.{IsReplaying};
-ghost use Rattle.propagate.specs.Alike.{IsNext, IsRepeated};
+ghost use Rattle.known_pages.specs.Alike.{IsNext, IsRepeated};
 ghost use Rattle.propagate.specs.Choosing as choosing;
 ghost use Rattle.propagate.specs.Consistency.{IsValid, AreFactsOf};
 ghost use Rattle.propagate.specs.declared.picking.Candidate.{Candidate};
 ghost use Rattle.propagate.specs.Choosing.{comes_before, has_made, HaveMade, candidate_of, leader_of, free_below, AreLeadersBelow, is_something};
 
-use super::marks::all_unmarked;
 use super::round::Round;
 use depend_graph::{Clock, Graph};
 use guest_call::THREADS;
+use known_pages::all_unmarked;
 use release_core::Core;
 use round_spec::Pick;
 use std::sync::Arc;

@@ -9,13 +9,12 @@ ghost use Rattle.report_spec.specs.Report.{instructions_from};
 ghost use Rattle.round_spec.specs.Rounds.{none_in_flight, nothing_taken, opening, is_finished, is_in_flight, history_of};
 ghost use Rattle.round_spec.specs.Instructions.{executed_instructions};
 ghost use Rattle.propagate.specs.Consistency.{IsOfMap, IsValid, AreFactsOf, IsRight, IsFound};
-ghost use Rattle.propagate.specs.Versions.{AreRight, IsComparable, unboxed};
+ghost use Rattle.known_pages.specs.Versions.{AreRight, IsComparable, unboxed};
 
-use super::marks::marks_at_start;
-use super::versions::{Versions, steps_of};
 use depend_graph::Graph;
 use guest_call::THREADS;
 use history_facts::{HistoryFacts, facts};
+use known_pages::{Versions, marks_at_start, steps_of};
 use machine_spec::End;
 use page_store::PageTable;
 use release_core::Core;
@@ -55,7 +54,7 @@ impl Model for Round {
     ghost use Rattle.std.specs.Arc.{arc_value};
     ghost use Rattle.round_spec.specs.Rounds.{RoundState};
     ghost use Rattle.propagate.specs.Consistency.{IsConsistent};
-    ghost use Rattle.propagate.specs.Versions.{unboxed};
+    ghost use Rattle.known_pages.specs.Versions.{unboxed};
 
     ghost Value = { RoundState };
 

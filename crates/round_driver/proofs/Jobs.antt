@@ -29,7 +29,8 @@ use Rattle.propagate.specs.Committing.{CanCommit, Commits}
 use Rattle.thunk_run.specs.Running.{IsRunOf}
 use Rattle.release_core.specs.Jobs.{IsJobOf}
 use Rattle.round_driver.specs.Jobs.{IsHeldFor, HaveJobs}
-use Rattle.propagate.proofs.Appending.{in_flight-below, take-ready, below-32}
+use Rattle.round_spec.proofs.Picks.{below-32}
+use Rattle.propagate.proofs.Appending.{in_flight-below, take-ready}
 use Rattle.propagate.specs.Executing.{executed_by}
 use Rattle.propagate.proofs.Keeping.{record_count}
 use Rattle.propagate.proofs.Executing.{run-record, in_flight-commits, commit-counts}

@@ -5,9 +5,11 @@ use Rattle.thunk_spec.specs.Record.{Record}
 use Rattle.machine_spec.specs.Setup.{IsSetup}
 use Rattle.machine_spec.specs.Machine.{Machine}
 use Rattle.history_spec.specs.Facts as order
-use Rattle.history_facts.specs.Outlining.{machine_at, IsOutlineOf}
+use Rattle.release_core.specs.Applying.{machine_at}
+use Rattle.history_facts.specs.Outlining.{IsOutlineOf}
 use Rattle.history_facts.proofs.PendingFacts.{follows-applied, all-came}
-use Rattle.history_facts.proofs.Outlining.{machine-more, coherent-can, coherent-applied, coherent-last}
+use Rattle.release_core.proofs.Histories.{machine-more, coherent-can}
+use Rattle.history_facts.proofs.Outlining.{coherent-applied, coherent-last}
 use Rattle.history_facts.proofs.known.Goals as goal
 
 pub next-requires : goal.next-requires

@@ -2,7 +2,8 @@
 use Rattle.std.proofs.Common.{◌≡◌, ◌++◌, true, drop}
 use Rattle.history_spec.specs.Facts as order
 use Rattle.history_facts.specs.PendingFacts.{facts_to_come}
-use Rattle.history_facts.specs.Outlining.{machine_at, IsOutlineOf}
+use Rattle.release_core.specs.Applying.{machine_at}
+use Rattle.history_facts.specs.Outlining.{IsOutlineOf}
 use Rattle.history_facts.proofs.known.Given as goal
 
 -- the facts so far, with those that are still to come, are all; and the outline is of the machine before a place

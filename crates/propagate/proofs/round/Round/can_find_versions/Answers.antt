@@ -3,8 +3,8 @@ use Rattle.std.proofs.Common.{◌≡◌, ap, subst, sym, ◌∙◌}
 use Rattle.round_spec.specs.Rounds.{RoundState}
 use Rattle.machine_spec.specs.Setup.{Setup, first}
 use Rattle.machine_spec.specs.Whole.{IsWhole}
-use Rattle.propagate.specs.Alike.{IsAsMarked, IsAsBefore}
-use Rattle.propagate.proofs.KnownPages.{comparable}
+use Rattle.known_pages.specs.Alike.{IsAsMarked, IsAsBefore}
+use Rattle.propagate.proofs.Mapped.{comparable}
 use Rattle.propagate.proofs.round.Round.can_find_versions.Goals as goal
 
 pub returns-then-fuel : goal.returns-then-fuel

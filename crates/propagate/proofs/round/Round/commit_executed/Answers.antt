@@ -7,18 +7,17 @@ use Rattle.thunk_spec.specs.Record.{Record, IsTrue}
 use Rattle.history_spec.specs.Facts.{Fact}
 use Rattle.round_spec.specs.declared.events.Event.TheVariants.{Take, Commit}
 use Rattle.round_spec.specs.Rounds.{RoundState, happens}
-use Rattle.propagate.specs.declared.versions.Versions.{Versions}
+use Rattle.known_pages.specs.declared.versions.Versions.{Versions}
 use Rattle.propagate.specs.Appending.{Trail}
 use Rattle.propagate.specs.Committing.{CanCommit, picked_at}
 use Rattle.propagate.specs.Consistency.{IsConsistent, IsFound}
-use Rattle.propagate.specs.Alike.{IsInPlace, MayBeMarks}
-use Rattle.propagate.specs.Versions.{AreRight, MayBeMadeAnew, unboxed}
+use Rattle.known_pages.specs.Alike.{IsInPlace, MayBeMarks}
+use Rattle.known_pages.specs.Versions.{AreRight, MayBeMadeAnew, unboxed}
 use Rattle.propagate.proofs.Keeping.{record_count, few_entries, knows-made, valid_consistent}
 use Rattle.propagate.proofs.Making.{executed_in, executed-from, begun-goes, commit-append, commit-happens, commit-kept, goes-more, right-known, next-fits, kept-alike, found-alike, unless_ok, on_err, goes-no_further}
-use Rattle.propagate.proofs.Alike.{commit-as-before}
-use Rattle.propagate.proofs.Appending.{CanAppend, going-none}
-use Rattle.propagate.proofs.Entries.{length-push}
-use Rattle.propagate.proofs.KnownPages.{right-same, right-executed}
+use Rattle.known_pages.proofs.Alike.{commit-as-before}
+use Rattle.propagate.proofs.Appending.{CanAppend, going-none, length-push}
+use Rattle.known_pages.proofs.KnownPages.{right-same, right-executed}
 use Rattle.propagate.proofs.round.Round.commit_executed.Goals as goal
 use Rattle.propagate.proofs.round.Round.commit_executed.Goals.{After-self}
 

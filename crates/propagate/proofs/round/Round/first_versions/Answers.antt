@@ -3,10 +3,10 @@ use Rattle.std.proofs.Common.{◌≡◌, ◌≤◌, ℕ, ap, sym, subst, ◌∙�
 use Rattle.std.specs.Arc.{arc_value}
 use Rattle.history_spec.specs.History.{History, past_records}
 use Rattle.round_spec.specs.Rounds.{RoundState}
-use Rattle.propagate.specs.declared.versions.StepVersions.{StepVersions}
+use Rattle.known_pages.specs.declared.versions.StepVersions.{StepVersions}
 use Rattle.propagate.specs.Consistency.{KnowsEnough, AreFactsOf}
-use Rattle.propagate.specs.Versions.{AreVersions, IsComparable, AreStepsOf, AreFresh}
-use Rattle.propagate.proofs.KnownPages.{versions-fresh}
+use Rattle.known_pages.specs.Versions.{AreVersions, IsComparable, AreStepsOf, AreFresh}
+use Rattle.known_pages.proofs.KnownPages.{versions-fresh}
 use Rattle.propagate.proofs.round.Round.first_versions.Goals as goal
 
 pub returns-in_ok-new-in-Some-Some : goal.returns-in_ok-new-in-Some-Some

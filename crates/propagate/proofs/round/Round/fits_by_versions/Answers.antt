@@ -6,9 +6,9 @@ use Rattle.thunk_spec.specs.Reads.{ReadPage, has}
 use Rattle.machine_spec.specs.Machine.{hart_of}
 use Rattle.round_spec.specs.Rounds.{RoundState}
 use Rattle.round_spec.specs.Due.{place_in}
-use Rattle.propagate.specs.declared.versions.Versions.{Versions}
-use Rattle.propagate.specs.Versions.{AreRight, HasKnown, unboxed}
-use Rattle.propagate.proofs.KnownPages.{known-next-of}
+use Rattle.known_pages.specs.declared.versions.Versions.{Versions}
+use Rattle.known_pages.specs.Versions.{AreRight, HasKnown, unboxed}
+use Rattle.known_pages.proofs.KnownPages.{known-next-of}
 use Rattle.propagate.proofs.round.Round.fits_by_versions.Goals as goal
 
 pub has_reads-requires : goal.has_reads-requires

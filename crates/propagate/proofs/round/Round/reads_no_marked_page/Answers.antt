@@ -3,9 +3,9 @@ use Rattle.std.proofs.Common.{◌≡◌, Bool, List, length, ap, sym, subst, ◌
 use Rattle.std.proofs.lemmas.Bool.{eqb-true}
 use Rattle.round_spec.specs.Rounds.{RoundState}
 use Rattle.round_spec.specs.Due.{place_in}
-use Rattle.propagate.specs.Alike.{IsAsMarked, IsAsBefore, AreClean, IsClean, all_unmarked}
+use Rattle.known_pages.specs.Alike.{IsAsMarked, IsAsBefore, AreClean, IsClean, all_unmarked}
 use Rattle.propagate.proofs.Keeping.{record_count}
-use Rattle.propagate.proofs.Alike.{next-fits-of, clean-unmarked}
+use Rattle.known_pages.proofs.Alike.{next-fits-of, clean-unmarked}
 use Rattle.propagate.proofs.round.Round.reads_no_marked_page.Goals as goal
 
 pub returns-then-is_next-clause-next : goal.returns-then-is_next-clause-next

@@ -15,16 +15,16 @@ use Rattle.machine_spec.specs.Step.{fits}
 use Rattle.machine_spec.proofs.Harts.{ready-below}
 use Rattle.history_spec.specs.History.{History}
 use Rattle.history_spec.specs.Facts.{Fact}
-use Rattle.propagate.specs.declared.versions.Versions.{Versions}
+use Rattle.known_pages.specs.declared.versions.Versions.{Versions}
 use Rattle.propagate.specs.Appending.{Trail}
-use Rattle.propagate.specs.Versions.{AreRight, MayBeMadeAgain, unboxed}
-use Rattle.propagate.specs.Alike.{IsAsBefore}
+use Rattle.known_pages.specs.Versions.{AreRight, MayBeMadeAgain, unboxed}
+use Rattle.known_pages.specs.Alike.{IsAsBefore}
 use Rattle.propagate.specs.Consistency.{IsConsistent, IsFound, KnowsEnough}
-use Rattle.propagate.proofs.Alike.{reuse-as-before, at-place}
-use Rattle.propagate.proofs.Entries.{length-push}
-use Rattle.propagate.proofs.KnownPages.{right-same, right-there, right-reused}
+use Rattle.known_pages.proofs.Alike.{reuse-as-before, at-place}
+use Rattle.known_pages.proofs.KnownPages.{right-same, right-there, right-reused}
 use Rattle.propagate.proofs.Keeping.{record_count, knows-reused, valid_consistent}
-use Rattle.propagate.proofs.Appending.{Reusable, reuse-can}
+use Rattle.propagate.proofs.Appending.{Reusable, length-push}
+use Rattle.known_pages.proofs.Alike.{reuse-can}
 use Rattle.propagate.proofs.Making.{appended, appended-from, reuse-append, reuse-happens, reuse-kept, goes-more, right-known, next-fits, kept-alike, found-alike, unless_ok, on_err, goes-no_further}
 use Rattle.propagate.proofs.round.Round.reuse.Goals as goal
 use Rattle.propagate.proofs.round.Round.reuse.Goals.{In_ok-rec-in-Some}

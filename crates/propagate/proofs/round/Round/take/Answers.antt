@@ -7,12 +7,13 @@ use Rattle.round_spec.specs.declared.events.Event.TheVariants.{Take}
 use Rattle.round_spec.specs.Rounds.{RoundState, can_take, happens}
 use Rattle.round_spec.proofs.Conditions.{happens-take}
 use Rattle.propagate.specs.Consistency.{IsValid}
-use Rattle.propagate.proofs.Appending.{below-32, take-ready}
+use Rattle.round_spec.proofs.Picks.{below-32}
+use Rattle.propagate.proofs.Appending.{take-ready}
 use Rattle.propagate.proofs.Keeping.{valid_consistent, kept-happens, knows-found}
 use Rattle.propagate.proofs.Making.{goes-nowhere, kept-alike, unless_ok, on_err}
-use Rattle.propagate.proofs.Alike.{as-before-same}
-use Rattle.propagate.specs.Versions.{unboxed}
-use Rattle.propagate.proofs.KnownPages.{right-same}
+use Rattle.known_pages.proofs.Alike.{as-before-same}
+use Rattle.known_pages.specs.Versions.{unboxed}
+use Rattle.known_pages.proofs.KnownPages.{right-same}
 use Rattle.propagate.proofs.round.Round.take.Goals as goal
 
 -- what is said of a job isn't said of a failure

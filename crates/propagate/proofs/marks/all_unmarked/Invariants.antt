@@ -1,8 +1,0 @@
--- The invariant of the loop of `all_unmarked`.
-use Rattle.std.proofs.Common.{◌≡◌, drop}
-use Rattle.propagate.specs.Alike.{all_unmarked}
-use Rattle.propagate.proofs.marks.all_unmarked.Given as goal
-
-abbrev pub invariant-loop-read : goal.invariant-loop-read
-invariant-loop-read l =
-    all_unmarked l.marks (drop l.read-index l.reads) ≡ all_unmarked l.marks l.reads

@@ -1,9 +1,0 @@
--- The invariant of the loop of `learn`.
-use Rattle.std.proofs.Common.{◌≡◌, drop}
-use Rattle.propagate.specs.Versions.{learned}
-use Rattle.propagate.proofs.versions.learn.Given as goal
-
-abbrev pub invariant-loop-page : goal.invariant-loop-page
-invariant-loop-page l =
-    learned l.times.written.items l.times.viewed l.pages l.t (drop l.page-index l.read)
-    ≡ learned l.times.written.items l.times.viewed l.initial.pages l.t l.read

@@ -1,8 +1,0 @@
--- The invariant of the loop of `rewrite`.
-use Rattle.std.proofs.Common.{◌≡◌, drop}
-use Rattle.propagate.specs.Versions.{rewritten}
-use Rattle.propagate.proofs.versions.rewrite.Given as goal
-
-abbrev pub invariant-loop-page : goal.invariant-loop-page
-invariant-loop-page l =
-    rewritten l.pages l.after (drop l.page-index l.written) ≡ rewritten l.initial.pages l.after l.written
