@@ -2,3 +2,4 @@
 pub mod Applying
 pub mod PendingFacts
 pub mod Outlining
+pub mod OfRun

@@ -1,4 +1,5 @@
-//! The facts of a history: what each of its steps does, as far as other steps can depend on it.
+//! The facts of a history: what each of its steps does, as far as other steps can depend on it; which of its steps depend
+//! on which; and how many of them a change of its setup reaches.
 #![tactic(auto)]
 
 ghost use Rattle.std.specs.Prelude.{◌≡◌, ◌&&◌, true, if◌then◌else◌, is_some, IfOk, OnOk};
@@ -10,12 +11,14 @@ ghost use Rattle.run_history.specs.Records.{AreOfRun};
 
 mod asking;
 mod outline;
+mod reaching;
 mod replay;
 mod serving;
 mod slots;
 
-use depend_graph::Fact;
+use depend_graph::{Fact, Graph};
 use outline::Outline;
+pub use reaching::steps_reached;
 use replay::Replay;
 use run_history::{History, Records};
 use std::alloc::{AllocError, Global};
@@ -138,4 +141,16 @@ pub fn facts(alloc: Global, history: &History) -> Result<HistoryFacts, AllocErro
         facts,
         coherent: true,
     })
+}
+
+/// Which steps of a history depend on which.
+///
+/// # Errors
+///
+/// An error if the host's memory ran out.
+pub fn graph_of(alloc: Global, history: &History) -> Result<Graph, AllocError>
+    ensures graph { IfOk result (λ graph. graph ≡ order.facts history.now) }
+    ensures of_run { IfOk result (λ _. AreOfRun history.now.records) }
+{
+    Graph::of(alloc, facts(alloc, history)?.facts)
 }

@@ -10,6 +10,7 @@ ghost use Rattle.ith_commands.specs.Playing.{beginning_said};
 ghost use Rattle.ith_top.specs.Making.{data_of_made, text_by, IsMadeOn};
 
 use super::crew::{Crew, MadeRound};
+use history_facts::steps_reached;
 use ith_commands::{Beginning, is_exit};
 use ith_host::Gate;
 use rerun_spec::Asked;
@@ -31,12 +32,16 @@ pub struct ReportedRound {
 }
 
 /// The data of the report on a round that was made, with the optional lines that are requested.
-fn data_of<'a>(made: &'a MadeRound, asked: Asked) -> Result<ReportData<'a>, AllocError>
+fn data_of<'a>(
+    alloc: Global,
+    made: &'a MadeRound,
+    asked: Asked,
+) -> Result<ReportData<'a>, AllocError>
     ensures { IfOk result (λ reported. reported ≡ data_of_made asked made.now) }
 {
     let round = &made.round;
     let reached = if asked.reach {
-        Some(round.reached()?)
+        Some(steps_reached(alloc, round.past(), round.setup())?)
     } else {
         None
     };
@@ -79,7 +84,7 @@ fn text_of(
     ensures { IfOk result (λ text.
         text.items ≡ text_by form number (data_of_made asked made.now)) }
 {
-    let reported = data_of(made, asked)?;
+    let reported = data_of(alloc, made, asked)?;
     match form {
         Form::Report => text(alloc, number as u64, &reported, last),
         Form::Line => short(alloc, number as u64, &reported),

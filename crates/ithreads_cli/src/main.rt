@@ -1,11 +1,8 @@
 //! The program: its arguments, the operating system as its host, the progress line on a terminal, and the exit status.
 #![tactic(auto)]
 
-mod live;
-
-use ith_host::{Host, OsHost};
+use ith_host::{Host, Live, OsHost};
 use ith_top::{Status, top};
-use live::Live;
 use std::env;
 use std::io::{ErrorKind, IsTerminal};
 use std::process::ExitCode;

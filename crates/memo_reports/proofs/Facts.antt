@@ -1,9 +1,7 @@
--- The facts of a history's records: their threads and the pages that they write.
+-- The facts of a history's records: the pages that they write.
 use Rattle.std.proofs.Common.{◌≡◌, ◌<◌, ◌+◌, ℕ, zero, suc, Bool, true, false, ◌&&◌, ltb, cond, List, [], ◌∷◌, All, length, map, get_or, Some, is_none, refl, ap, ap₂, sym, ◌∙◌, subst, arith}
-use Rattle.std.specs.List.{AllByRecursion, list_all, slice_get}
+use Rattle.std.specs.List.{AllByRecursion, slice_get}
 use Rattle.std.proofs.lemmas.Bool.{and_parts, ltb-true}
-use Rattle.std.proofs.lemmas.List.{length-map}
-use Rattle.std.proofs.lemmas.List.Elements.{All-from_recursion}
 use Rattle.memory_spec.specs.Pages.{Mapped, ascends_above}
 use Rattle.thunk_spec.specs.Record.{Record}
 use Rattle.machine_spec.specs.Machine.{Machine}
@@ -13,7 +11,6 @@ use Rattle.history_spec.specs.History.{History}
 use Rattle.history_spec.specs.Facts.{Fact, fact_of, bare_fact, facts_from, facts, reads_in, read_slots, written_slots}
 use Rattle.history_spec.specs.Before.{fact_at, no_fact}
 use Rattle.round_spec.specs.Reach.{read_at, reads_of}
-use Rattle.run_history.specs.Records.{HaveThreads}
 
 -- what the fact and the record of a step have in common
 module _ {X : Type 0} (g : Fact → X) (k : Record → X) (reads : ℕ → ℕ → List ℕ)
@@ -34,21 +31,10 @@ module _ {X : Type 0} (g : Fact → X) (k : Record → X) (reads : ℕ → ℕ �
       here rest true = ap₂ (λ (x : X) (xs : List X). x ∷ xs) (full m r) rest
       here rest false = bare-keep (r ∷ rs)
 
-pub fact-threads : (h : History) → map (λ (f : Fact). f.thread) (facts h) ≡ map (λ (r : Record). r.thread) h.records
-fact-threads h =
-    facts-keep (λ (f : Fact). f.thread) (λ (r : Record). r.thread) (reads_in h.records) (λ m r. refl) (λ r. refl)
-    (first h.setup) h.records
-
 pub fact-writes : (h : History) → map (λ (f : Fact). f.written) (facts h) ≡ map written_slots h.records
 fact-writes h =
     facts-keep (λ (f : Fact). f.written) written_slots (reads_in h.records) (λ m r. refl) (λ r. refl)
     (first h.setup) h.records
-
-pub fact-count : (h : History) → length (facts h) ≡ length h.records
-fact-count h =
-    sym (length-map (facts h) (λ (f : Fact). f.thread))
-    ∙ ap (λ (xs : List ℕ). length xs) (fact-threads h)
-    ∙ length-map h.records (λ (r : Record). r.thread)
 
 -- what is at a place
 pub get-is : {A : Type 0} (xs : List A) (i : ℕ) (x d : A) → slice_get xs i ≡ Some x → get_or xs i d ≡ x
@@ -85,25 +71,6 @@ read-at h i r at = get-mapped read_slots h.records i r [] at
 pub all-get :
     {A : Type 0} (P : A → Type 0) (xs : List A) (i : ℕ) (x : A) → All P xs → slice_get xs i ≡ Some x → P x
 all-get P xs i x all at = subst P (get-is xs i x x at) (all i x (get-below xs i x at))
-
--- the threads of facts
-of-threads :
-    (fs : List Fact) (rs : List Record)
-    → map (λ (f : Fact). f.thread) fs ≡ map (λ (r : Record). r.thread) rs → HaveThreads rs
-    → AllByRecursion (λ (f : Fact). f.thread < 32) fs
-of-threads [] rs same have = tt
-of-threads (f ∷ fs) [] same have = cc
-of-threads (f ∷ fs) (r ∷ rs) same have =
-    let first : f.thread ≡ r.thread = cc in
-    let rest : map (λ (f : Fact). f.thread) fs ≡ map (λ (r : Record). r.thread) rs = cc in
-    let parts = and_parts (ltb r.thread 32) (list_all (λ (q : Record). ltb q.thread 32) rs) have in
-    let below : r.thread < 32 = ltb-true r.thread 32 parts.0 in
-    (omega arith, of-threads fs rs rest parts.1)
-
-pub have-threads : (h : History) → HaveThreads h.records → All (λ (f : Fact). f.thread < 32) (facts h)
-have-threads h have =
-    All-from_recursion (λ (f : Fact). f.thread < 32) (facts h)
-    (of-threads (facts h) h.records (fact-threads h) have)
 
 -- the pages of a setup are few
 pub pages-few :

@@ -1,20 +1,18 @@
 -- Which threads are due, by the clock of the place of the thread's next step.
-use Rattle.std.proofs.Common.{◌≡◌, ◌≢◌, ◌<◌, ◌≤◌, ◌⊎◌, ◌↔◌, ℕ, zero, suc, Bool, true, false, ◌&&◌, eqb, ltb, leb, cond, List, [], ◌∷◌, All, length, map, get_or, Option, Some, None, refl, ap, sym, ◌∙◌, subst, inl, inr, arith}
+use Rattle.std.proofs.Common.{◌≡◌, ◌≢◌, ◌<◌, ◌≤◌, ◌⊎◌, ◌↔◌, ℕ, zero, suc, Bool, true, false, ◌&&◌, eqb, ltb, leb, cond, List, [], ◌∷◌, length, get_or, Option, Some, None, refl, ap, sym, ◌∙◌, subst, inl, inr, arith}
 use Rattle.std.specs.Bool.{Decides}
-use Rattle.std.specs.List.{AllByRecursion, list_all, position_or_len}
+use Rattle.std.specs.List.{list_all, position_or_len}
 use Rattle.std.proofs.lemmas.Bool.{cases_lt, and_parts, ltb-true, leb-true, le-leb, or_cases, or_left, or_right, ne_eqb, and_left}
-use Rattle.std.proofs.lemmas.List.Elements.{All-from_recursion}
 use Rattle.thunk_spec.specs.Record.{Record}
 use Rattle.machine_spec.specs.Machine.{Machine, hart_of}
 use Rattle.history_spec.specs.History.{History, past_records, threads_of_records, is_of}
 use Rattle.run_history.specs.Records.{HaveThreads, AreOfRun}
 use Rattle.history_spec.specs.Facts.{Fact, facts}
 use Rattle.history_spec.specs.Before.{fact_at}
-use Rattle.history_spec.specs.Keeping.{fact_thread, record_thread}
 use Rattle.history_spec.specs.Ancestors.{is_up_to, clock_at}
 use Rattle.history_spec.proofs.Clocks.{count-stay}
 use Rattle.round_spec.specs.Due.{place_in, past_facts, has_exited, is_step_at, are_passed_before, is_due}
-use Rattle.round_spec.proofs.Placed.{facts-of, facts-length, thread-is, absent-due, placed-step, placed-due, step-thread, step-number}
+use Rattle.round_spec.proofs.Placed.{facts-length, thread-is, absent-due, placed-step, placed-due, step-thread, step-number}
 use Rattle.round_spec.proofs.Clocked.{passed-clock}
 use Rattle.propagate.specs.Choosing.{has_made, HaveMade}
 
@@ -24,31 +22,6 @@ pub none-run : (past : Option History) → past ≡ None → AreOfRun (past_reco
 none-run past is =
     subst (λ (p : Option History). AreOfRun (past_records p)) (sym is)
     (record { numbered = refl; threads = refl; few = omega arith })
-
--- a history has as many facts as records, and they are of threads that exist
-
-pub few-facts : (fs : List Fact) (h : History) → fs ≡ facts h → AreOfRun h.records → length fs ≤ 65536
-few-facts fs h is run =
-    let many = ap (λ (x : List Fact). length x) is in omega (arith, facts-length h, run.few)
-
-of-threads :
-    (fs : List Fact) (rs : List Record)
-    → map fact_thread fs ≡ map record_thread rs → HaveThreads rs → AllByRecursion (λ (f : Fact). f.thread < 32) fs
-of-threads [] rs same have = tt
-of-threads (f ∷ fs) [] same have = cc
-of-threads (f ∷ fs) (r ∷ rs) same have =
-    let first : f.thread ≡ r.thread = cc in
-    let rest : map fact_thread fs ≡ map record_thread rs = cc in
-    let parts = and_parts (ltb r.thread 32) (list_all (λ (q : Record). ltb q.thread 32) rs) have in
-    let below : r.thread < 32 = ltb-true r.thread 32 parts.0 in
-    (omega arith, of-threads fs rs rest parts.1)
-
-pub have-threads :
-    (fs : List Fact) (h : History) → fs ≡ facts h → AreOfRun h.records → All (λ (f : Fact). f.thread < 32) fs
-have-threads fs h is run =
-    subst (All (λ (f : Fact). f.thread < 32)) (sym is)
-    (All-from_recursion (λ (f : Fact). f.thread < 32) (facts h)
-    (of-threads (facts h) h.records (facts-of h) run.threads))
 
 -- a clock counts no step of a thread that can't exist
 

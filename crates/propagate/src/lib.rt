@@ -6,7 +6,6 @@
 mod alone;
 mod events;
 mod picking;
-mod reaching;
 mod round;
 
 pub use alone::{run_alone, run_alone_shown};

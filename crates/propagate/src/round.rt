@@ -13,7 +13,7 @@ ghost use Rattle.known_pages.specs.Versions.{AreRight, IsComparable, unboxed};
 
 use depend_graph::Graph;
 use guest_call::THREADS;
-use history_facts::{HistoryFacts, facts};
+use history_facts::{HistoryFacts, facts, graph_of};
 use known_pages::{Versions, marks_at_start, steps_of};
 use machine_spec::End;
 use page_store::PageTable;
@@ -90,16 +90,6 @@ fn nothing_taken() -> [u32; THREADS]
     [0; THREADS]
 }
 
-/// Which steps of a history depend on which, if there is one.
-pub(super) fn graph_of(alloc: Global, past: &Option<Arc<History>>) -> Result<Graph, AllocError>
-    ensures { IfOk result (AreFactsOf (option_map arc_value past.now)) }
-{
-    match past {
-        Some(history) => Graph::of(alloc, facts(alloc, history)?.facts),
-        None => Graph::of(alloc, Vec::new(alloc)),
-    }
-}
-
 /// Finds which steps of a history depend on which, if that is needed and not yet known.
 pub(super) fn find_facts(
     alloc: Global,
@@ -112,7 +102,11 @@ pub(super) fn find_facts(
     ensures err { OnErr result (graph.new ≡ graph.old) }
 {
     if needed && graph.is_none() {
-        *graph = Some(graph_of(alloc, past)?);
+        let found = match past {
+            Some(history) => graph_of(alloc, history)?,
+            None => Graph::of(alloc, Vec::new(alloc))?,
+        };
+        *graph = Some(found);
     }
     Ok(())
 }
@@ -187,6 +181,13 @@ impl Round {
             Some(history) => history.find(t, number),
             None => None,
         }
+    }
+
+    /// The history that it is based on, if there is one.
+    pub fn past(&self) -> Option<&Arc<History>>
+        ensures { option_map (λ h. arc_value h.now) result ≡ self.now.past }
+    {
+        self.past.as_ref()
     }
 
     /// The steps so far, with their marks.

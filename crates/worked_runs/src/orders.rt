@@ -6,7 +6,7 @@ ghost use Rattle.std.specs.Prelude.{◌<◌, length};
 use super::lines::two_pages;
 use super::rounds::{driven, history_of, scheduled};
 use depend_graph::Graph;
-use history_facts::facts;
+use history_facts::graph_of;
 use machine_spec::End;
 use propagate::Round;
 use round_spec::Event;
@@ -71,11 +71,6 @@ const MET: [u8; 20] = [0, 0, 0, 1, 2, 1, 2, 0, 1, 1, 2, 2, 0, 1, 2, 1, 2, 0, 0, 
 /// The entries of it that the next one needn't follow: entry 2 makes the barrier, entries 3 and 4 yield, and entry 5
 /// comes to the barrier; entry 14 unlocks the mutex, and entry 15 ends the other thread.
 const FREE_IN_MET: [usize; 4] = [2, 3, 4, 14];
-
-/// Which steps of a history depend on which.
-fn graph_of(alloc: Global, history: &History) -> Result<Graph, AllocError> {
-    Graph::of(alloc, facts(alloc, history)?.facts)
-}
 
 /// Whether a step must come directly before the one at the next place.
 fn is_followed(graph: &Graph, place: usize, next: usize) -> Result<bool, AllocError>

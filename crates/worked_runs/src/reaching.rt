@@ -1,6 +1,7 @@
 //! An edit that reaches a step that writes a page, and itself wakes the page's reader.
 
 use super::rounds::{driven, history_of, scheduled};
+use history_facts::steps_reached;
 use machine_spec::End;
 use propagate::Round;
 use round_spec::Event;
@@ -63,7 +64,7 @@ fn who_wakes_the_reader_of_what_it_wrote_leads_to_it(rt: HostRuntime) -> Result<
     let alloc = rt.alloc();
     let past = history_of(alloc, scheduled(&rt, alloc, WAKING, b"\x05", &WOKEN)?)?;
     let round = driven(&rt, alloc, WAKING, b"\x08", Some(past), &EVENTS)?;
-    assert!(rt; round.reached()? == 4);
+    assert!(rt; steps_reached(alloc, round.past(), round.setup())? == 4);
     assert!(rt; has_marks(&round, &[true, true, false, false, false, false]));
     assert!(rt; round.end() == Some(End::Exit(8)));
     Ok(())

@@ -6,7 +6,6 @@ use Rattle.std.specs.Arc.{arc_value}
 use Rattle.round_spec.specs.Rounds.{RoundState}
 use Rattle.round_spec.specs.Workers.{IsMadeBy}
 use Rattle.rerun_spec.specs.Rounds.{Found, Beginning, with_input}
-use Rattle.rerun_spec.specs.Reports.{is_exit}
 use Rattle.ith_commands.specs.Counting.{Spends}
 use Rattle.ith_commands.specs.Playing.{beginning_said}
 use Rattle.ith_top.proofs.Making.{made_on, round_map}

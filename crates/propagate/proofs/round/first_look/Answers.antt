@@ -1,5 +1,5 @@
 -- Answers to the goals that the check of `first_look` leaves open.
-use Rattle.propagate.proofs.Due.{few-facts, have-threads}
+use Rattle.history_facts.proofs.OfRun.{few-facts, have-threads}
 use Rattle.propagate.proofs.round.first_look.Goals as goal
 
 pub of-requires-clause-few : goal.of-requires-clause-few

@@ -13,7 +13,7 @@ use Rattle.memo_reports.specs.declared.races.touches.Touch.{Touch}
 use Rattle.memo_reports.specs.declared.races.past.Access.{Access}
 use Rattle.memo_reports.specs.Past.{accesses_of, races_with, is_misplaced}
 use Rattle.memo_reports.specs.Rows.{races_in}
-use Rattle.memo_reports.proofs.Facts.{fact-count}
+use Rattle.round_spec.proofs.Placed.{facts-length}
 use Rattle.memo_reports.proofs.Tally.{bit, tally-few}
 use Rattle.memo_reports.proofs.Bounds.{few-pages, races-summed, whole-races}
 use Rattle.memo_reports.proofs.Between.{so_far}
@@ -26,7 +26,7 @@ abbrev none : Touch
 none = record { slot = 0; writes = false }
 
 few-steps : (h : History) (n k : ℕ) → n ≡ k → k ≡ length (facts h) → length h.records ≤ 65536 → n ≤ 65536
-few-steps h n k end many few = omega (arith, fact-count h)
+few-steps h n k end many few = omega (arith, facts-length h)
 
 pub loop-place-init : goal.loop-place-init
 loop-place-init c =
@@ -368,7 +368,7 @@ returns-clause-total c =
     ∙ ap (λ (x : Setup). length (map_of x)) c.setup-setup.ensures.setup)
     (let long = c.len-place-end.ensures in
     let many = c.in_ok-steps.ensures.steps.many in
-    let count = fact-count h in
+    let count = facts-length h in
     omega arith))
 
 pub returns-clause-first : goal.returns-clause-first
@@ -399,5 +399,5 @@ returns-clause-first c =
     ∙ ap (λ (x : Setup). length (map_of x)) c.setup-setup.ensures.setup)
     (let long = c.len-place-end.ensures in
     let many = c.in_ok-steps.ensures.steps.many in
-    let count = fact-count h in
+    let count = facts-length h in
     omega arith))

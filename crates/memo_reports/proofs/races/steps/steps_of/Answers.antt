@@ -1,5 +1,5 @@
 -- The next step is there, and is counted.
-use Rattle.std.proofs.Common.{◌≡◌, ◌≢◌, ◌<◌, ◌≤◌, ◌+◌, ℕ, zero, suc, Bool, true, false, eqb, cond, List, All, length, set, get_or, Some, refl, ap, ap₂, sym, ◌∙◌, subst, inl, inr, arith}
+use Rattle.std.proofs.Common.{◌≡◌, ◌≢◌, ◌<◌, ◌≤◌, ◌+◌, ℕ, zero, suc, Bool, true, false, eqb, cond, List, length, set, get_or, Some, refl, ap, ap₂, sym, ◌∙◌, subst, inl, inr, arith}
 use Rattle.std.specs.List.{slice_get}
 use Rattle.std.proofs.lemmas.Bool.{cases_eq, cases_lt, eq-eqb}
 use Rattle.std.proofs.lemmas.Bool.Decides.{nat_tests}
@@ -16,17 +16,15 @@ use Rattle.round_spec.specs.Sync.{seen_at}
 use Rattle.memo_reports.specs.declared.races.steps.Step.{Step}
 use Rattle.memo_reports.specs.Touches.{touches_in}
 use Rattle.memo_reports.specs.Steps.{IsStep, AreSteps}
-use Rattle.memo_reports.proofs.Facts.{fact-count, fact-written, read-at, all-get, have-threads}
+use Rattle.memo_reports.proofs.Facts.{fact-written, read-at, all-get}
+use Rattle.history_facts.proofs.OfRun.{few-facts, have-threads}
+use Rattle.round_spec.proofs.Placed.{facts-length}
 use Rattle.memo_reports.proofs.races.steps.steps_of.Goals as goal
-
-few-facts : (fs : List Fact) (h : History) → fs ≡ facts h → AreOfRun h.records → length fs ≤ 65536
-few-facts fs h is run =
-    let many = ap (λ (x : List Fact). length x) is in omega (arith, fact-count h, run.few)
 
 known-thread :
     (fs : List Fact) (h : History) (i : ℕ) → fs ≡ facts h → AreOfRun h.records → i < length fs → (fact_at fs i).thread < 32
 known-thread fs h i is run less =
-    subst (All (λ (f : Fact). f.thread < 32)) (sym is) (have-threads h run.threads) i no_fact less
+    have-threads fs h is run i no_fact less
 
 low-thread :
     (fs : List Fact) (h : History) (i t : ℕ)
@@ -74,8 +72,8 @@ of_sync-requires-clause-few c =
 
 pub of_sync-requires-clause-threads : goal.of_sync-requires-clause-threads
 of_sync-requires-clause-threads c =
-    subst (All (λ (f : Fact). f.thread < 32)) (sym (c.deref.ensures.value ∙ c.in_ok-facts.ensures.facts))
-    (have-threads c.args.history.now c.in_ok-facts.ensures.of_run.threads)
+    have-threads c.deref.result.now c.args.history.now (c.deref.ensures.value ∙ c.in_ok-facts.ensures.facts)
+    c.in_ok-facts.ensures.of_run
 
 pub loop-i-init : goal.loop-i-init
 loop-i-init c = record {
@@ -114,7 +112,7 @@ bounds-numbers-from-in-loop-i-2 c =
 
 pub at-requires : goal.at-requires
 at-requires c =
-    let many = fact-count c.args.history.now in
+    let many = facts-length c.args.history.now in
     let one = ap (λ (fs : List Fact). length fs) c.in_ok-facts.ensures.facts in
     let two = ap (λ (rs : List Record). length rs) c.records-records.ensures.records in
     subst (λ (k : ℕ). c.loop-i.i < k) (c.len-i-end.ensures ∙ c.in_ok-facts.field-0.facts.ok.0 ∙ one ∙ many ∙ sym two)

@@ -1,19 +1,21 @@
-//! Which steps of a round's history the change of its setup reaches.
+//! How many steps of a history a change of its setup reaches.
 
-ghost use Rattle.std.specs.Prelude.{◌≡◌, ◌<◌, ◌≤◌, Bool, not, length, count_by, Some, IfOk};
+ghost use Rattle.std.specs.Prelude.{◌≡◌, ◌<◌, ◌≤◌, Bool, not, length, count_by, option_map, Some, IfOk};
+ghost use Rattle.std.specs.Arc.{arc_value};
 ghost use Rattle.std.specs.Str.{bytes_eq};
 ghost use Rattle.memory_spec.specs.Pages.{page_of};
-ghost use Rattle.history_spec.specs.Facts.{facts, read_slots as slots_read};
+ghost use Rattle.history_spec.specs.Facts.{read_slots as slots_read};
 ghost use Rattle.round_spec.specs.Reach.{reads_of, changed_slots, changed, reached_count};
 ghost use Rattle.run_history.specs.Records.{AreOfRun};
 ghost use Rattle.depend_graph.specs.Reaching.{slots_of_each};
 
-use super::round::{Round, graph_of};
-use depend_graph::{Graph, MOST_FACTS};
+use super::graph_of;
+use depend_graph::MOST_FACTS;
 use page_store::PageTable;
 use release_core::Core;
 use run_history::{History, Setup};
 use std::alloc::{AllocError, Global};
+use std::sync::Arc;
 use thunk_record::Record;
 
 /// The slots of the pages that a step read.
@@ -80,45 +82,32 @@ fn count_set(flags: &[bool]) -> u32
     flags.iter().filter(|flag| **flag).count() as u32
 }
 
-/// How many steps of a history with this graph are reached by a setup in place of its own.
-fn steps_reached(
-    alloc: Global,
-    history: &History,
-    graph: &Graph,
-    setup: &Setup,
-) -> Result<u32, AllocError>
-    requires { graph.now ≡ facts history.now }
+/// How many steps of this history are reached by a setup in place of its own.
+fn reached_in(alloc: Global, history: &History, setup: &Setup) -> Result<u32, AllocError>
     ensures { IfOk result (λ steps. steps ≡ reached_count (Some history.now) setup.now) }
 {
+    let graph = graph_of(alloc, history)?;
     let reads = all_read_slots(alloc, history)?;
     let changed = slots_changed(alloc, history.setup(), setup)?;
     let flags = graph.reach(&reads, &changed)?;
     Ok(count_set(&flags))
 }
 
-impl Round {
-    /// How many steps of its history its setup reaches, and 0 if it has no history.
-    ///
-    /// # Errors
-    ///
-    /// An error if the host's memory ran out.
-    pub fn reached(&self) -> Result<u32, AllocError>
-        ensures { IfOk result (λ steps. steps ≡ reached_count self.now.past self.now.setup) }
-    {
-        match &self.past {
-            Some(history) => {
-                let alloc = *self.schedule.allocator();
-                match &self.graph {
-                    Some(graph) => steps_reached(alloc, history, graph, &self.setup),
-                    None => steps_reached(
-                        alloc,
-                        history,
-                        &graph_of(alloc, &self.past)?,
-                        &self.setup,
-                    ),
-                }
-            }
-            None => Ok(0),
-        }
+/// How many steps of a history are reached by a setup in place of its own, and 0 if there is no history.
+///
+/// # Errors
+///
+/// An error if the host's memory ran out.
+pub fn steps_reached(
+    alloc: Global,
+    past: Option<&Arc<History>>,
+    setup: &Setup,
+) -> Result<u32, AllocError>
+    ensures { IfOk result (λ steps. steps
+        ≡ reached_count (option_map (λ h. arc_value h.now) past.entry) setup.now) }
+{
+    match past {
+        Some(history) => reached_in(alloc, history, setup),
+        None => Ok(0),
     }
 }

@@ -1,6 +1,6 @@
 -- Answers to the goals that the check of `graph_of` leaves open.
-use Rattle.propagate.proofs.Due.{few-facts, have-threads}
-use Rattle.worked_runs.proofs.orders.graph_of.Goals as goal
+use Rattle.history_facts.proofs.OfRun.{few-facts, have-threads}
+use Rattle.history_facts.proofs.graph_of.Goals as goal
 
 pub of-requires-clause-few : goal.of-requires-clause-few
 of-requires-clause-few c =

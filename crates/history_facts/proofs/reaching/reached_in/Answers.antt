@@ -8,7 +8,7 @@ use Rattle.history_spec.specs.Facts.{Fact, read_slots}
 use Rattle.round_spec.proofs.Placed.{facts-length}
 use Rattle.round_spec.specs.Reach.{is_reached}
 use Rattle.depend_graph.specs.Reaching.{slots_of_each}
-use Rattle.propagate.proofs.reaching.steps_reached.Goals as goal
+use Rattle.history_facts.proofs.reaching.reached_in.Goals as goal
 
 pub reach-requires : goal.reach-requires
 reach-requires c =
@@ -19,15 +19,15 @@ reach-requires c =
     ∙ ap (λ (l : List (List ℕ)). length l) c.in_ok-reads.ensures.slots
     ∙ length-map h.records (λ (r : Record). read_slots r)
     ∙ sym (facts-length h)
-    ∙ ap (λ (l : List Fact). length l) (sym c.requires)
+    ∙ ap (λ (l : List Fact). length l) (sym c.in_ok-graph.ensures.graph)
 
 pub count_set-requires : goal.count_set-requires
 count_set-requires c =
     let h = c.args.history.now in
-    let graph = c.args.graph.now in
+    let graph = c.in_ok-graph.graph in
     let many : length c.deref-3.result.now ≡ length graph =
     ap (λ (l : List Bool). length l) (c.deref-3.ensures.value ∙ c.in_ok-flags.ensures)
     ∙ length-map-range_with_len (is_reached graph (slots_of_each c.deref.result.now) c.deref-2.result.now) 0 (length graph) in
-    let steps : length graph ≡ length h.records = ap (λ (l : List Fact). length l) c.requires ∙ facts-length h in
+    let steps : length graph ≡ length h.records = ap (λ (l : List Fact). length l) c.in_ok-graph.ensures.graph ∙ facts-length h in
     let few = c.in_ok-reads.ensures.of_run.few in
     omega arith

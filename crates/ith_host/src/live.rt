@@ -1,6 +1,6 @@
 //! The line that shows the progress of a round on a terminal.
 
-use ith_host::Gate;
+use super::gate::Gate;
 use std::fmt::{self, Display, Formatter};
 use std::io::Eprint;
 use std::sync::atomic::{AtomicBool, AtomicU64, Ordering};

@@ -4,7 +4,7 @@ use Rattle.std.specs.Str.{bytes_eq}
 use Rattle.std.proofs.lemmas.List.{get_or_past}
 use Rattle.std.proofs.lemmas.Bool.Decides.{nat_tests}
 use Rattle.memory_spec.specs.Pages.{page_of}
-use Rattle.propagate.proofs.reaching.differs.Goals as goal
+use Rattle.history_facts.proofs.reaching.differs.Goals as goal
 
 unlike-none : (page : List ℕ) → length page ≡ 4096 → true ≡ not (bytes_eq page [])
 unlike-none [] full = absurd (let no : 0 ≡ 4096 = full in omega arith)

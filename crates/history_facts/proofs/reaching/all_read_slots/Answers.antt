@@ -7,7 +7,7 @@ use Rattle.std.proofs.lemmas.Option.{get_or_from_slice_get}
 use Rattle.thunk_spec.specs.Record.{Record}
 use Rattle.history_spec.specs.Facts.{read_slots}
 use Rattle.depend_graph.specs.Reaching.{slots_of_each}
-use Rattle.propagate.proofs.reaching.all_read_slots.Goals as goal
+use Rattle.history_facts.proofs.reaching.all_read_slots.Goals as goal
 
 -- the slots that one more step reads come last
 read-more :
