@@ -46,7 +46,7 @@ impl Fact {
     /// # Errors
     ///
     /// An error if the host's memory ran out.
-    pub fn without_pages(&self, alloc: Global) -> Result<Fact, AllocError>
+    pub(super) fn without_pages(&self, alloc: Global) -> Result<Fact, AllocError>
         ensures { IfOk result (λ fact. fact ≡ sync_fact self.now) }
     {
         Ok(Fact {
