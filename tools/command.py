@@ -42,14 +42,14 @@ class Command:
             where = "" if error.filename is None else f"{error.filename}: "
             self.refuse(self.failed, f"{where}{error.strerror or error}")
 
-    def say(self, why):
+    def report(self, why):
         """A line on standard error, unless that is closed or full."""
         with contextlib.suppress(OSError):
             if sys.stderr is not None:
                 print(f"{self.called}: {why}", file=sys.stderr, flush=True)
 
     def refuse(self, status, why):
-        self.say(why)
+        self.report(why)
         sys.exit(status)
 
     def content(self, name, most=-1):
