@@ -13,9 +13,11 @@ MOST_VALUE, MOST_PUT = 2**31 - 1, 4096
 
 
 class Calls:
-    """What calls do. A machine also has `threads`, each with a `status`, a `value` and a `joiner`; `begin`, which adds a
-    thread; and `answer`, by which a call of a thread returns. A call answers a number, or None if the thread waits, or
-    has its answer by then."""
+    """What calls do.
+
+    A machine also has `threads`, each with a `status`, a `value` and a `joiner`; `begin`, which adds a thread; and
+    `answer`, by which a call of a thread returns. A call answers a number, or None if the thread waits, or has its
+    answer by then."""
 
     def __init__(self):
         self.queues = {}  # of an object, a kind and a number, who waits for it
