@@ -62,7 +62,7 @@ def ran(*words):
 
 
 def is_built(name):
-    """Whether a proved program is there, or can be had: where it isn't, it is proved and built first, however long that takes."""
+    """Whether a proved program is there or can be built: if it isn't there, it is proved and built first."""
     quiet = {"stdin": subprocess.DEVNULL, "stdout": subprocess.DEVNULL, "stderr": subprocess.DEVNULL}
     return subprocess.run([str(ROOT / name), "--help"], check=False, **quiet).returncode != 125
 

@@ -24,7 +24,7 @@ def put(data):
 
 class Command:
     """A tool of this folder, by its name: each line that it says on standard error begins with it, or with the name by
-    which it was installed. `failed` is its status where the system fails it."""
+    which it was installed. `failed` is its status if the system fails it."""
 
     def __init__(self, name, failed=2):
         called = os.path.basename(sys.argv[0])
@@ -72,7 +72,7 @@ class Command:
         return data
 
     def rounds(self, name, status=1):
-        """The rounds of a file of reports; ends with this status where it is none."""
+        """The rounds of a file of reports; ends with this status if it is none."""
         try:
             return list(reports.rounds(self.content(name)))
         except reports.NotReports as why:

@@ -22,7 +22,7 @@ LISTED = 3  # of the calls and the places that the title of a box of several ste
 MARGIN, LABELS = 16, 78  # beside the picture, and for the names of lanes
 LANE, BOX, HEAD, GAP = 36, 22, 30, 26  # heights: of a lane, a box, a round's heading, and between rounds
 INSIDE, MOST_INSIDE, FOLDED_INSIDE = 1000, 3000, 1250  # the widths that all steps of a round may take
-STEP = 7  # the least width of a box, where there is room
+STEP = 7  # the least width of a box, if there is room
 SHARE = 0.45  # of the width is by instructions
 STYLE = """
 text { font: 12px system-ui, 'DejaVu Sans', sans-serif; fill: #222; }
@@ -243,7 +243,7 @@ class Drawing:
             yield element("path", "", **{"class": "lane"}, d=f"M{left:.1f} {y}H{right:.1f}")
 
     def box(self, box):
-        """A box, and in it the name of its call, where there is room."""
+        """A box, and in it the name of its call, if there is room."""
         y, width, executed = self.lanes[box.steps[0].thread] - BOX / 2, box.right - box.left, box.executed
         title = step_text(box.steps[0]) if len(box.steps) == 1 else steps_text(box)
         high = max(BOX * executed / len(box.steps), LEAST_HIGH if executed else 0)

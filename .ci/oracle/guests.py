@@ -78,7 +78,7 @@ PARTS = ((0.25, under_mutex), (0.4, under_rwlock), (0.43, waited), (0.9, any_cal
 
 
 def body(draw, has_barrier):
-    """What a thread does; the barrier, where there is one, is met once by each."""
+    """What a thread does; the barrier, if there is one, is met once by each."""
     parts = []
     for _ in range(draw.randrange(2, 8)):
         kind = draw.random()
