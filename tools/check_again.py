@@ -12,6 +12,7 @@
   - Calls that are killed at any moment leave nothing that the next one stumbles over; several at once don't either.
   - With --watch each save makes a call.
 """
+import json
 import os
 import re
 import shutil
@@ -24,7 +25,7 @@ import memos
 from checking import EXAMPLES, MOST_INPUT, ROOT, SECONDS, on_terminal, program, ran_whole
 
 TOOL = ROOT / "tools/again"
-LINE = re.compile(r"tools/again: ([0-9,]+) steps reused, ([0-9,]+) executed, [0-9.]+ s"
+LINE = re.compile(r"tools/again: ([0-9,]+) steps? reused, ([0-9,]+) executed, [0-9.]+ s"
                   r"(?: from scratch|; from scratch (?:[0-9.]+ s|isn't known))((?:; .*)?)\n")
 ALONE = "--", "--workers", "1"
 EDITS = 6
@@ -113,8 +114,9 @@ def check_damage(checks):
     place.expect("before any damage", 12, "there was no memo")
     whole = place.memo.read_bytes()
     at = len(whole) // 2
-    for what, data, word in (("that is empty", b"", "Magic"), ("that is cut at its head", whole[:9], "Short"),
+    for what, data, word in (("that is empty", b"", "Short"), ("that is cut at its head", whole[:9], "Short"),
                              ("that is cut", whole[:-1], "Digest"), ("that is cut in its version", whole[:5], "Short"),
+                             ("that is cut in its executable", whole[:99], "Digest"),
                              ("of a later version", whole[:4] + b"\x09" + whole[5:], "Version 9"),
                              ("with another byte of the executable", whole[:100] + bytes([whole[100] ^ 1]) + whole[101:],
                               "Digest"),
@@ -151,6 +153,25 @@ def check_limits(checks):
     right = status == 213 and counts and counts[:2] == (5, 0) and "as --steps allows" in errors
     checks.expect(f"again, with a step limit that is reached: {status} {errors}", right)
     place.expect("after it", 7, "a limit was reached, so it ran again with")
+
+
+def check_price(checks):
+    """A rerun that is said to take longer than from scratch, and one whose input has another length than was timed."""
+    place = Place(checks, "price", EXAMPLES / "pair.elf", (EXAMPLES / "pair.in").read_bytes())
+    place.expect("before its price is looked at", 12, "there was no memo")
+    scratch = place.cache / "data.in.scratch"
+    known = {**json.loads(scratch.read_bytes()), "seconds": -1}
+    length, size = place.data.stat().st_size, place.memo.stat().st_size
+    for timed, edited, wanted in ((length, False, f"a memo of {size:,} bytes was read"),
+                                  (length, True, f"a memo of {size:,} bytes was read, and one of "),
+                                  (2 * length + 1, False, None)):
+        scratch.write_text(json.dumps({**known, "input": timed}))
+        if edited:
+            place.data.write_bytes(b"\7" + place.data.read_bytes()[1:])
+        status, _, _, errors = again(place.guest, place.data)
+        right = (errors.endswith("; from scratch isn't known\n") if wanted is None else
+                 f"that is longer than from scratch: {wanted}" in errors)
+        checks.expect(f"again, timed with {timed} bytes: {errors}", status == 0 and right)
 
 
 def check_largest(checks):
@@ -369,6 +390,7 @@ def check(checks):
     check_edits(checks)
     check_damage(checks)
     check_limits(checks)
+    check_price(checks)
     check_largest(checks)
     check_terminal(checks)
     check_statuses(checks)

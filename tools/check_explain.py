@@ -72,6 +72,7 @@ OTHER_LINES = [
     "tools/memo: step 3, of thread 1, number 0, is false:", "tools/install: /usr/local/bin: Not a directory",
     "tools/install: /usr/local/bin: Permission denied", "tools/verify: No usable temporary directory found in ['/tmp']",
     "tools/run: ithreads ended with status 125: the program isn't built, and can't be",
+    "tools/run: ithreads ended with status 6: a file can't be read",
     "tools/verify: round 0 can't be replayed: status 125: the program isn't built, and can't be",
     "ithreads: the program is not built, and ITHREADS_NO_BUILD is set",
     "ithreads: crates/a/src/lib.rt is newer than the program: remove crates/b/out/b to have it built anew",
@@ -261,7 +262,7 @@ def check_parts(checks):
     counts = "tools/again: 0 steps reused, 1 executed, 0.27 s from scratch; there was no memo"
     for line, wanted in (
             (f"{counts}; a limit was reached, so it ran again with --fuel 16777216 --steps 65536; round 0 ended by "
-             "spent: thread 3 ran without a call for as many turns as --fuel allows",
+             "spent: thread 3 executed as many instructions without a call as --fuel allows",
              "a step of thread 3 had as many instructions as --fuel allows without a call. If no --fuel was given"),
             (f"{counts}; round 0 ended by deadlock", "each thread waits for another"),
             (counts, "nothing was kept of a call before"),

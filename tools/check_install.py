@@ -94,6 +94,17 @@ def check_examples(checks, place):
         checks.expect(f"examples/{name} is as it is here", same)
 
 
+def check_links(checks, place):
+    """Each link of a document leads to what is installed; what isn't is named without a link."""
+    for file in sorted((place.prefix / "share/doc/ithreads").rglob("*.md")):
+        text = file.read_text()
+        found = re.findall(r"\]\(([^()\s]+)\)|^\[[^][]+\]: (\S+)$", text, re.M)
+        targets = {(one or other).partition("#")[0] for one, other in found}
+        dead = sorted(one for one in targets if one and "://" not in one and not (file.parent / one).exists())
+        undefined = set(re.findall(r"\[(`[^][`]+`)\](?![(\[:])", text)) - set(re.findall(r"^\[(.*)\]:", text, re.M))
+        checks.expect(f"links of {file.name} that lead nowhere: {dead} {undefined}", not dead and not undefined)
+
+
 def check_files(checks, place):
     """The list, links that lead somewhere, and texts that name nothing of the repository."""
     checks.expect(f"the list has the files: {len(place.files())}", place.listed() == place.files())
@@ -309,6 +320,7 @@ def check(checks):
     if not checks.expect(f"it is installed: {status} {errors}", status == 0 and not errors):
         return
     commands, files = check_files(checks, place), place.files()
+    check_links(checks, place)
     check_examples(checks, place)
     check_stopped(checks)
     check_commands(checks, place, commands)

@@ -20,7 +20,7 @@ import time
 
 import differences
 import edit_lists
-from checking import EXAMPLES, GUEST, MOST_INPUT, MOST_LIST, program, tool
+from checking import EXAMPLES, GUEST, MOST_INPUT, MOST_LIST, ROOT, program, ran_whole, tool
 
 PAIRS = 100
 MORE_PAIRS = 1000
@@ -245,6 +245,12 @@ def check_into(checks):
     other.unlink()
     status, printed, errors = tool("edits", old, new, "--into", checks.folder / "no folder" / "several")
     checks.expect(f"a name that can't be written is reported: {errors}", status == 2 and not printed and errors)
+    large = checks.file("large", bytes(range(256)) * 4000)
+    words = [str(ROOT / "tools/edits"), EXAMPLES / "empty", large, "--into", "part"]
+    status, printed, errors = ran_whole("bash", "-c", 'ulimit -f 16; "$@"', "bash", *map(str, words), cwd=checks.folder)
+    left = [file.name for file in checks.folder.glob("part.*")]
+    checks.expect(f"of a list that finds no room nothing is left: {status} {printed} {errors} {left}",
+                  status != 0 and not printed and not left)
 
 
 def check_apply(checks):

@@ -1,8 +1,10 @@
 """Checks how `tools/races` sorts the races of a program with a C library; examples/races/check says what of guests that
 have none.
 
-  - Where three threads lock a mutex around each access to a sum, no race is printed, but how many the library's are.
-  - Where they don't the first time, three pairs of threads race for the sum, and stand before the library's.
+  - If three threads lock a mutex around each access to a sum, no race is printed, but how many the library's are. So it
+    is with a reader-writer lock, whose code is in another folder of the library.
+  - If they don't the first time, three pairs of threads race for the sum, and are listed before the library's: also if
+    the program's file has the name of one of the library's.
   - With --all each race that `ithreads races` prints has its line.
 """
 import re
@@ -12,16 +14,24 @@ from checking import EXAMPLES, ROOT, program, ran_whole, tool
 
 SOURCE = """#include <pthread.h>
 #include <stdio.h>
-static int sum;
+#ifdef SHARED
+#define LOCK pthread_rwlock_wrlock
+#define UNLOCK pthread_rwlock_unlock
+static pthread_rwlock_t lock = PTHREAD_RWLOCK_INITIALIZER;
+#else
+#define LOCK pthread_mutex_lock
+#define UNLOCK pthread_mutex_unlock
 static pthread_mutex_t lock = PTHREAD_MUTEX_INITIALIZER;
+#endif
+static int sum;
 static void *work(void *nothing)
 {
     for (int k = FIRST; k < 3; k++) {
         if (k >= 0)
-            pthread_mutex_lock(&lock);
+            LOCK(&lock);
         sum++;
         if (k >= 0)
-            pthread_mutex_unlock(&lock);
+            UNLOCK(&lock);
     }
     return nothing;
 }
@@ -40,9 +50,9 @@ PAIRS = ["1 2", "1 3", "2 3"]  # of threads, whose first accesses nothing orders
 STEPS = re.compile("    step [0-9]+ of thread ([0-9]+),.*\n    step [0-9]+ of thread ([0-9]+),.*\n    both store to sum\n")
 
 
-def check_sorted(checks, first, pairs):
-    source, elf, memo = checks.file("raced.c", SOURCE.encode()), checks.folder / "raced.elf", checks.folder / "raced.memo"
-    ran_whole(str(ROOT / "guest/build"), "--libc", "--symbols", f"-DFIRST={first}", str(source), str(elf))
+def check_sorted(checks, first, pairs, name="raced.c", more=()):
+    source, elf, memo = checks.file(name, SOURCE.encode()), checks.folder / "raced.elf", checks.folder / "raced.memo"
+    ran_whole(str(ROOT / "guest/build"), "--libc", "--symbols", f"-DFIRST={first}", *more, str(source), str(elf))
     program("run", elf, EXAMPLES / "empty", "--workers", "1", "--memo", memo)
     listed = program("races", memo)[1].decode().splitlines()
     status, printed, errors = tool("races", memo)
@@ -65,3 +75,6 @@ def check(checks):
         return
     check_sorted(checks, 0, [])
     check_sorted(checks, -1, PAIRS)
+    check_sorted(checks, 0, [], more=("-DSHARED",))
+    for name in ("threads.c", "rwlock.c"):
+        check_sorted(checks, -1, PAIRS, name, ("-DSHARED",))

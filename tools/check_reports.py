@@ -286,7 +286,7 @@ def check_ends(checks):
     check_run(checks, "an unknown call", (checks.file("unknown.elf", unknown), empty), 211, b"",
               "round 0 ended by trap 0 00010010 8")
     check_run(checks, "a deadlock", (cross, empty), 212, b"", "round 0 ended by deadlock")
-    check_run(checks, "fuel", (hi, "--fuel", "4", empty), 213, b"", "round 0 ended by spent: thread 0 ran without")
+    check_run(checks, "fuel", (hi, "--fuel", "4", empty), 213, b"", "round 0 ended by spent: thread 0 executed as many")
     check_run(checks, "steps", (hi, empty, "--steps=1"), 213, b"hi\n", "round 0 ended by spent: it had 1 steps")
     five = checks.file("five", b"set 0 00\n")
     check_run(checks, "a length as code", (EXAMPLES / "length.elf", EXAMPLES / "pair.in", five), 4100 % 256, b"")

@@ -137,8 +137,8 @@ def check_refused(checks):
     bad, far = checks.file("bad", b"set 0\n"), checks.file("far", b"\nset 5000 00\n")
     for what, words, begun in (
             ("no file of reports", [*pair[:2]], "usage"),
-            ("too few lists", [*pair[:2], report], "there are 2 rounds, and with 0"),
-            ("too many lists", [*pair, pair[2], report], "there are 2 rounds, and with 2"),
+            ("too few lists", [*pair[:2], report], "rounds of the reports: 2; inputs by INPUT and the edit lists: 1"),
+            ("too many lists", [*pair, pair[2], report], "rounds of the reports: 2; inputs by INPUT and the edit lists: 3"),
             ("a cut file", [*pair, cut], "at byte 99: "),
             ("no such file", [*pair, checks.folder / "none"], "can't be read"),
             ("no such list", [*pair[:2], checks.folder / "none", report], "can't be read"),

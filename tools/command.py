@@ -95,8 +95,7 @@ class Command:
             self.refuse(2, why)
         made = made if first == 0 or not lists else made[1:]
         if len(made) < count or len(made) > count and not may_lack:
-            rounds = "is 1 round" if count == 1 else f"are {count} rounds"
-            self.refuse(2, f"there {rounds}, and with {len(lists)} edit lists {len(made)} inputs")
+            self.refuse(2, f"rounds of the reports: {count}; inputs by INPUT and the edit lists: {len(made)}")
         return made
 
     def refuse_others(self, status, name, pattern, written):
@@ -107,12 +106,17 @@ class Command:
                                     f"remove it first")
 
     def write(self, name, text):
-        """Writes a file anew."""
+        """Writes a file anew, whole or not at all: the first lines of a list would be another list."""
+        part = f"{name}.{os.getpid()}"
         try:
-            with open(name, "w", encoding="ascii") as file:
+            with open(part, "x", encoding="ascii") as file:
                 file.write(text)
+            os.replace(part, name)
         except OSError as error:
             self.refuse(2, f"{name} can't be written: {error.strerror}")
+        finally:
+            with contextlib.suppress(OSError):
+                os.remove(part)
 
     def put(self, data):
         """Prints bytes, all of them."""

@@ -60,7 +60,7 @@ def how(last, limit):
     if last.end["kind"] == "spent":
         thread = last.schedule[-1][0]
         text += (f": it had {last.steps} steps, as many as --steps allows" if last.steps == limit else
-                 f": thread {thread} ran without a call for as many turns as --fuel allows")
+                 f": thread {thread} executed as many instructions without a call as --fuel allows")
     if last.end["kind"] == "trap":
         text += f": thread {last.end['thread']}, at 0x{int(last.end['pc'], 16):x}: {TRAPS[last.end['cause']]}"
     return f"round {last.number} ended by {text}"

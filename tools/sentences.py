@@ -136,12 +136,13 @@ LINES = [
     (r"memo: Magic", f"the file is no memo; {AGAIN}"),
     (r"memo: Version (\d+)", f"the memo has version {{1}}, and this program reads versions 1 and 2; {AGAIN}"),
     (r"memo: Digest", f"the memo is damaged or cut off: its digest isn't that of its bytes; {AGAIN}"),
-    (r"memo: Limit (\w+)", f"a number in the memo ({{1}}) is above its limit, so that another program wrote it; "
+    (r"memo: Limit (\w+)", f"a number in the memo ({{1}}) is out of its range, so that another program wrote it; "
                            f"{AGAIN}"),
     (r"memo: Field (\d+)",
      f"the memo is wrong at byte {{1}}, though its digest is right, so that another program wrote it; {AGAIN}"),
     (r"memo: Old (\d+)",
-     f"the memo was written before this machine had products and quotients, and its guest came to one; {AGAIN}"),
+     "the memo was written before this machine had products and quotients, or reader-writer locks, and its guest came to "
+     f"one; {AGAIN}"),
     (r"memo: Incoherent (\d+)",
      f"record {{1}} of the memo doesn't follow from those before it: another program wrote it; {AGAIN}"),
     (r"edits (.*) line (\d{1,20}): BadLine", bad_line),

@@ -54,12 +54,13 @@ ALONE = ("`{name}`{by} shares its page with nothing, and {where} reads it. Give 
 BY_ONE = ("one thread alone stores `{name}`{by} on a page that nothing shares, and {steps} steps read that: {where}. Let "
           "fewer, longer steps read it, with fewer calls between; or store what changes in another place than what these "
           "steps need.")
+NUMBERED = "{where} uses objects that get numbers in another order. Initialise them before the threads are created."
 OF_LIBRARY = {  # what is advised for the variables of a file of the C library
     "output.c": "{where} prints. Format by snprintf into memory on {own_page}, and print that in one thread, at the end.",
     "input.c": "{where} reads stdin in pieces. Read everything by one fread, before the threads are created.",
     "malloc.c": "{where} takes or frees memory. Take it before the threads are created, as many blocks each time.",
-    "objects.c": "{where} uses objects that get numbers in another order. Initialise them before the threads are "
-                 "created.",
+    "objects.c": NUMBERED,
+    "rwlock.c": NUMBERED,
 }
 UNADVISED = {kind for kind, about in KINDS.items() if not about.advice} - {"library"}
 

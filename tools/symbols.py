@@ -1,6 +1,7 @@
 """What an executable with symbols says of addresses: functions and variables by its symbol table, which is read here,
 and lines by llvm-symbolizer or addr2line, if one is installed and the executable has them."""
 import bisect
+import functools
 import json
 import pathlib
 import re
@@ -22,8 +23,10 @@ OF_FILES = {  # what the variables of guest/lib are for, by their files
     "input.c": "how far stdin was read",
     "malloc.c": "what malloc keeps of its blocks",
     "objects.c": "the numbers of mutexes, semaphores, barriers and conditions",
+    "rwlock.c": "the numbers of reader-writer locks",
 }
-OF_LIBRARY = re.compile("/newlib/|/libgcc/|picolibc|guest/(lib|include)/[a-z_]+[.][ch]$")  # names of files
+OF_LIBRARY = re.compile("/newlib/|/libgcc/|picolibc|guest/(lib|include)/([a-z]+/)?[a-z0-9_]+[.][ch]$")  # names of files
+NM = "riscv64-unknown-elf-nm"
 
 
 class NoSymbols(Exception):
@@ -82,7 +85,7 @@ class Symbols:
         self.known = {}  # the symbols of addresses that were looked up
         self.library = set()  # where its functions begin
         self.labels = {symbol.name: symbol.address for symbol in self.found if symbol.name.startswith("it_")}
-        self.library_files = {file.name for file in LIBRARY.glob("*.c")} if "it_shared" in self.labels else set()
+        self.library_files = {file.name for file in LIBRARY.rglob("*.c")} if "it_shared" in self.labels else set()
 
     def are_of(self, elf):
         """Whether an executable loads the same, but for the file's header, which has also what isn't loaded."""
@@ -153,9 +156,25 @@ class Symbols:
         symbol = self.at(address)
         if symbol is None or self.data(address) is None:
             return "unnamed", "what has no name"
-        if symbol.file in self.library_files or symbol.name.startswith("it_") and self.library:
+        if self.is_of_library(symbol):
             return "library", OF_FILES.get(symbol.file, f"`{symbol.name}` of the C library")
         return "variable", symbol.name
+
+    def is_of_library(self, symbol):
+        """Whether a variable is the C library's. A symbol has the name of its file without the folder, and a guest's file
+        may have that of one of the library: so nm, if it is installed, says which of them it is."""
+        if symbol.file not in self.library_files:
+            return symbol.name.startswith("it_") and bool(self.library)
+        return bool(OF_LIBRARY.search(self.paths.get(symbol.address, f"guest/lib/{symbol.file}")))
+
+    @functools.cached_property
+    def paths(self):
+        """By the addresses of symbols, the files that have them, with their folders, as far as nm knows them."""
+        if not shutil.which(NM):
+            return {}
+        ran = subprocess.run([NM, "-l", self.name], stdin=subprocess.DEVNULL, capture_output=True, check=False)
+        lines = re.finditer(r"^([0-9a-f]{8}) . [^\t\n]*\t(.*):[0-9]+$", ran.stdout.decode("utf-8", "replace"), re.M)
+        return {int(line.group(1), 16): line.group(2) for line in lines}
 
     def ranges(self):
         """Where the C library's heap is, and what each thread has for itself: a kind, the first address, the one behind

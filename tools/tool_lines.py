@@ -2,6 +2,7 @@
 `explained(line)` gives the sentence; None if it is no line of a tool's."""
 import re
 
+import endings
 import sentences
 from sentences import BUILD
 
@@ -19,8 +20,9 @@ def of_program(line):
 
 def ended(status, why):
     """A tool that runs the program ends since that did."""
-    return of_program(why) if why else (f"ithreads ended with status {status} before a report was whole; its own line "
-                                        f"stands above")
+    if why and why not in endings.FAILURES.values():
+        return of_program(why)
+    return f"ithreads ended with status {status} before a report was whole; its own line stands above: explain that one"
 
 
 def how_it_ended(end):
@@ -45,19 +47,21 @@ def spent_again(thread):
 COUNTS = ("so many steps were taken from the run that was kept, and so many executed. Many executed ones after a small "
           "edit: tools/why says what they read")
 OF_AGAIN = [
-    (r"round \d+ ended by spent: thread (\d+) ran without a call .*", spent_again),
+    (r"round \d+ ended by spent: thread (\d+) executed as many instructions .*", spent_again),
     (r"round \d+ ended by spent: it had ([\d,]+) steps, .*",
      "the run had {1} steps, as many as --steps allows. If no --steps was given, tools/again has tried the largest, "
      "65,536: make fewer calls"),
     (r"round \d+ ended by (exit \d+|deadlock|trap)\b.*", how_it_ended),
-    (r"(.*) is refused: (.*)", lambda file, why: f"{file} was no use, so the program ran from scratch: {of_program('memo: ' + why)}"),
+    (r"(.*) is refused: (.*)",
+     lambda file, why: f"{file} was no use, so the program ran from scratch: {of_program('memo: ' + why)}"),
+    (r"(.*) can't be read: .*", "{1} can't be read, so the program ran from scratch: see who may read it"),
     (r"there was no memo", "nothing was kept of a call before, so the program ran from scratch"),
     (r"the program has changed", "a memo is of one program, so the changed one ran from scratch"),
     (r"more of the input has changed than an edit list holds",
      "the program ran from scratch: an edit list writes 524,284 bytes at most"),
     (r"no memo is kept: (.*)", lambda why: f"the next call runs from scratch, too: {of_program(why)}"),
     (r"that is longer than from scratch: .*",
-     "steps are many and short, so that reading and writing the memo takes longer than executing: make fewer calls"),
+     "reading and writing the memo took longer than executing everything. If steps are many and short, make fewer calls"),
 ]
 
 
@@ -80,8 +84,8 @@ LINES = [
                                   "one `ithreads run` or `rerun`; or run the guest on the new input from scratch"),
     (r"(.*) is there, and is none of the \d+ that are to be written: .*",
      "more files would have NAME than are written now: remove {1}, or give another NAME"),
-    (r"there (?:is |are )?(\d+(?: rounds?)?), and with (\d+) edit lists .*",
-     f"the reports have {{1}}, and each edit list makes one. {AS_RUN}"),
+    (r"rounds of the reports: \d+; inputs by .*",
+     f"each edit list makes a round, and so does INPUT, unless the reports are of a rerun. {AS_RUN}"),
     (r"no line of the program is among these",
      "give a line that `ithreads`, ./trace or a tool printed on standard error, or the line `end` of a report, to the "
      "letter"),
@@ -104,7 +108,7 @@ LINES = [
     (r"(.*): line (\d+): .*", "{1} isn't of this round from line {2} on: give what `ithreads show`, `ithreads why` or "
                               "./trace printed for it, whole, or put the round's number before its name, as N:FILE"),
     (r"round \d+ ended by (exit \d+|deadlock|spent|trap)\b.*", how_it_ended),
-    (r"([\d,]+ steps reused, [\d,]+ executed, [^;]*)((?:; .*)?)", call_of_again),
+    (r"([\d,]+ steps? reused, [\d,]+ executed, [^;]*)((?:; .*)?)", call_of_again),
     (r"guest/build refuses (.*)",
      "the lines before this one say what is wrong with {1}, and what to write in its place"),
     (r"(?:the following arguments are required|unrecognized arguments|argument|expected|ambiguous option|--build is) ?.*",
