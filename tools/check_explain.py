@@ -67,7 +67,7 @@ OTHER_LINES = [
     "build: --march takes rv32i or rv32im", "build: b.c stands behind a.elf, and OUT is the last word",
     "build: a and b are two names of OUT", "build: --args takes one word, in which each quote is closed",
     "build: --args, --time, --yield-every and --unbuffered are of the C library: give --libc too",
-    "tools/memo: Digest (at 8140: digest: it is another)",
+    "tools/memo: Digest (at 8140: its last 32 bytes aren't the digest of the others)",
     "ithreads-memo: Image NotElf (at 12: executable: it isn't taken)",
     "tools/memo: step 3, of thread 1, number 0, is false:", "tools/install: /usr/local/bin: Not a directory",
     "tools/install: /usr/local/bin: Permission denied", "tools/verify: No usable temporary directory found in ['/tmp']",

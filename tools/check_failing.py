@@ -63,6 +63,8 @@ def check_printing(place):
     for status, name, *words in place.calls():
         for line in ('exec "$@" >/dev/full', 'exec "$@" >&-', 'PYTHONUNBUFFERED=1 exec "$@" >/dev/full'):
             place.expect(f"{name}, {line}", place.run(line, ROOT / "tools" / name, *words), status, f"tools/{name}: ")
+        got = place.run('exec "$@" --help >/dev/full', ROOT / "tools" / name)
+        place.expect(f"{name} --help, without room", got, status, f"tools/{name}: printing failed: ")
     old, long = place.checks.file("none", b""), place.checks.file("long", b"\1" * 100_000)
     cut = place.checks.folder / "cut"
     for more in ({}, {"PYTHONUNBUFFERED": "1"}):

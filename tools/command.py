@@ -1,4 +1,5 @@
 """What the tools share: how they end, reading files, reports among them, and printing."""
+import argparse
 import contextlib
 import errno
 import glob
@@ -20,6 +21,16 @@ def put(data):
         raise OSError(errno.EBADF, "standard output is closed")
     with os.fdopen(os.dup(sys.stdout.fileno()), "wb") as file:
         file.write(data)
+
+
+class Parser(argparse.ArgumentParser):
+    """A command line. Its help is printed, or the tool fails: argparse by itself ignores an error of printing."""
+
+    def print_help(self, file=None):
+        try:
+            put(self.format_help().encode())
+        except OSError as error:
+            raise OSError(error.errno, f"printing failed: {error.strerror}") from error
 
 
 class Command:

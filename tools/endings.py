@@ -2,6 +2,7 @@
 import argparse
 import sys
 
+import command
 import reports
 
 OF_ITHREADS = 200  # and its status
@@ -31,7 +32,7 @@ FAILURES = {  # ithreads' statuses; its own line says which file it is
 }
 
 
-class Parser(argparse.ArgumentParser):
+class Parser(command.Parser):
     """The command line of a tool that ends as a guest did: a wrong one has a status that isn't taken for a guest's."""
 
     def __init__(self, tool, **how):

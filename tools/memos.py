@@ -254,7 +254,7 @@ def read(data, reader=Reader):
     fields = reader(io.BytesIO(data), len(data) - DIGEST)
     version = fields.version()
     if not has_digest(data):
-        raise NotMemo("Digest", fields.size, "digest: it is another")
+        raise NotMemo("Digest", fields.size, "its last 32 bytes aren't the digest of the others")
     memo = fields.memo(version)
     if version == 1 and memo.records[-1].is_old():
         place = len(memo.records) - 1

@@ -44,7 +44,8 @@ class Table:
         if place >= len(self.steps):
             return ""
         step = self.steps[place]
-        return "; ".join([step.reason] * bool(step.reason) + [line.strip() for line in step.falsehoods])
+        head, rest = step.falsehoods[:1], "; ".join(line.strip() for line in step.falsehoods[1:])
+        return "; ".join([step.reason] * bool(step.reason) + [f"{line} {rest}" for line in head])
 
 
 def blocks(made, columns):
