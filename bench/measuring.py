@@ -45,6 +45,18 @@ def best(times, folder, words):
     return min(seconds for seconds, _ in runs), min(peak for _, peak in runs)
 
 
+def counted(folder, words):
+    """The processor's instructions of one run, by valgrind, whose report goes to the file `report` of a folder."""
+    counter = ["valgrind", "--tool=cachegrind", "--cache-sim=no", "--cachegrind-out-file=/dev/null"]
+    with open(os.path.join(folder, "report"), "wb") as report:
+        done = subprocess.run([*counter, PROGRAM, *words], stdin=subprocess.DEVNULL, stdout=report,
+                              stderr=subprocess.PIPE, env=ENVIRONMENT, check=False)
+    found = re.search(rb"I +refs: +([0-9,]+)", done.stderr)
+    if done.returncode or found is None:
+        sys.exit(f"{' '.join(words)}: status {done.returncode}: {done.stderr.decode(errors='replace')[-300:]}")
+    return int(found[1].replace(b",", b""))
+
+
 def ready(tool):
     """Ends this with status 1 where the program isn't built, or a tool that measures it isn't there."""
     name = os.path.basename(sys.argv[0])
